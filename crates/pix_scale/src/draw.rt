@@ -62,7 +62,7 @@ fn draw_row<P: Pixel, D: Stored<P>>(
 
 /// Writes the rows of a window of a picture at another size, which has a column. The last four
 /// slices are memory to work in.
-pub(crate) fn draw_rows<P: Pixel, D: Stored<P>>(
+fn draw_rows<P: Pixel, D: Stored<P>>(
     to: &mut [D],
     rows: Rows,
     view: View,
@@ -91,7 +91,13 @@ pub(crate) fn draw_rows<P: Pixel, D: Stored<P>>(
         rows.width rows.height rows.stride stride from.now to.old to.new }
 {
     let width = rows.width as usize;
-    write_table(across, u64::from(view.across), u64::from(view.left), firsts, weights);
+    write_table(
+        across,
+        u64::from(view.across),
+        u64::from(view.left),
+        firsts,
+        weights,
+    );
     let (low, high) = span(firsts, across.taps() as usize, across.places as usize);
     let by = Divisor::new(across.whole() * down.whole());
     for y in 0..rows.height {
@@ -113,6 +119,41 @@ pub(crate) fn draw_rows<P: Pixel, D: Stored<P>>(
             by,
         );
     }
+}
+
+/// Writes the rows of a window of a picture at another size, which has a column. The last slice is
+/// memory to work in.
+fn draw_in<P: Pixel, D: Stored<P>>(
+    to: &mut [D],
+    rows: Rows,
+    view: View,
+    from: &[D],
+    stride: usize,
+    across: Side,
+    down: Side,
+    work: &mut [u32],
+)
+    requires some { 0 < P.layout.count }
+    requires few { P.layout.count ≤ 8 }
+    requires sides { AreSides P.Chan.max across down view stride (length from.now) }
+    requires width { 0 < rows.width }
+    requires apart { rows.width ≤ rows.stride }
+    requires fit { (y : ℕ) → y < rows.height → y * rows.stride + rows.width ≤ length to.old }
+    requires left { view.left + rows.width ≤ view.across }
+    requires top { view.top + rows.height ≤ view.down }
+    requires work { (rows.width + rows.width * side_taps across)
+        + (side_taps down + across.places * P.layout.count) ≤ length work.old }
+    ensures { IsDrawn D.reads P.Chan.max P.layout.count (side_axis across) (side_axis down) view
+        rows.width rows.height rows.stride stride from.now to.old to.new }
+{
+    let width = rows.width as usize;
+    let (firsts, rest) = work.split_at_mut(width);
+    let (weights, rest) = rest.split_at_mut(width * across.taps() as usize);
+    let (row, rest) = rest.split_at_mut(down.taps() as usize);
+    let sums = &mut rest[..across.places as usize * P::default().channels().len()];
+    draw_rows::<P, D>(
+        to, rows, view, from, stride, across, down, firsts, weights, row, sums,
+    );
 }
 
 /// Draws a window of a picture at another size, where nothing is to be refused.
@@ -138,13 +179,14 @@ pub(crate) fn draw<P: Pixel, D: Stored<P>>(
     }
     let across = Side::new(filter, source.width, view.across);
     let down = Side::new(filter, source.height, view.down);
-    let width = rows.width as usize;
-    let (firsts, rest) = work.split_at_mut(width);
-    let (weights, rest) = rest.split_at_mut(width * across.taps() as usize);
-    let (row, rest) = rest.split_at_mut(down.taps() as usize);
-    let sums = &mut rest[..source.width as usize * P::default().channels().len()];
-    let stride = source.stride as usize;
-    draw_rows::<P, D>(
-        to, rows, view, from, stride, across, down, firsts, weights, row, sums,
+    draw_in::<P, D>(
+        to,
+        rows,
+        view,
+        from,
+        source.stride as usize,
+        across,
+        down,
+        work,
     );
 }

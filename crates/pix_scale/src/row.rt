@@ -122,6 +122,12 @@ pub(crate) fn scale_row<P: Pixel, D: Stored<P>>(
 {
     let n = P::default().channels().len();
     let start = first * stride + low;
-    sum_rows::<P, D>(&mut sums[low * n..high * n], &from[start..], high - low, stride, down);
+    sum_rows::<P, D>(
+        &mut sums[low * n..high * n],
+        &from[start..],
+        high - low,
+        stride,
+        down,
+    );
     write_row::<P, D>(to, sums, firsts, weights, taps, by);
 }

@@ -36,7 +36,11 @@ fn add_row<P: Pixel, D: Stored<P>>(sums: &mut [u32], row: &[D], weight: u32)
     let count = P::default().channels().len();
     for i in 0..row.len() {
         let pixel = row[i].load();
-        add_channels(&mut sums[i * count..i * count + count], pixel.channels(), weight);
+        add_channels(
+            &mut sums[i * count..i * count + count],
+            pixel.channels(),
+            weight,
+        );
     }
 }
 

@@ -20,7 +20,12 @@ pub(crate) fn write_table(side: Side, size: u64, at: u64, firsts: &mut [u32], we
 {
     let taps = side.taps() as usize;
     for i in 0..firsts.len() {
-        let first = weigh(side, size, at + i as u64, &mut weights[i * taps..i * taps + taps]);
+        let first = weigh(
+            side,
+            size,
+            at + i as u64,
+            &mut weights[i * taps..i * taps + taps],
+        );
         firsts[i] = first as u32;
     }
 }

@@ -32,5 +32,5 @@ loop-i-preserved g c =
     let in_ : x < count = omega (arith, same, lt) in
     let place : i * count + x ≡ i * n + x = omega (arith, ap (λ z. i * z) same) in
     let b = channel_read r g.P.Chan.Channel.number count i x c.args.row.now c.index-row-i.result c.channels.result.now in_ c.loop-i-test.true c.index-row-i.is numbers
-        ∙ ap (flat count (map r c.args.row.now)) place in
+    ∙ ap (flat count (map r c.args.row.now)) place in
     c.add_channels.ensures x (omega (arith, size, lt)) ∙ rw (a, b) refl))
