@@ -196,6 +196,14 @@ SCALE_()
 SCALE_(_rgba16)
 SCALE_(_graya8)
 
+static pix_status scale_work(void) {
+    const pix_size window = {17, 31}, all = {300, 96}, from = {SIDE, SIDE};
+    pix_status status = PIX_OK;
+    for (int i = 0; i < PIX_FILTER_COUNT && status == PIX_OK; i++)
+        status = pix_scale_work(window, all, from, (pix_filter)i) ? PIX_OK : PIX_TOO_LARGE;
+    return status;
+}
+
 static pix_status look_up(void) {
     static pix_srgb8 found[COUNT];
     memset(indices, 7, sizeof indices);
@@ -321,6 +329,7 @@ static const struct { const char *name; size_t kibibytes; pix_status (*call)(voi
     {"pix_scale", FEW, scale},
     {"pix_scale_rgba16", FEW, scale_rgba16},
     {"pix_scale_graya8", FEW, scale_graya8},
+    {"pix_scale_work", FEW, scale_work},
     {"pix_nearest", FEW, find},
     {"pix_raw_quantize", MAKING, make},
     {"pix_raw_quantize_alpha", MAKING, make_alpha},
