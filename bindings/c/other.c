@@ -155,7 +155,7 @@ static uint32_t scaling_fault(const plain_scaling *it) {
         return PIX_BAD_FILTER;
     if (!it->from.width || !it->from.height || !it->across || !it->down)
         return PIX_NO_SIDE;
-    if (it->from.width > 65535 || it->from.height > 65535 || it->across > INT32_MAX || it->down > INT32_MAX)
+    if (it->from.width > 65535 || it->from.height > 65535)
         return PIX_TOO_LARGE;
     across = (uint64_t)axis_whole(scaled_across(it));
     down = (uint64_t)axis_whole(scaled_down(it));
@@ -199,8 +199,6 @@ uint32_t pix_raw_scale_work(uint32_t width, uint32_t height, uint32_t across, ui
     *words = 0;
     if (fault)
         return fault;
-    if (width > across || height > down)
-        return PIX_OUTSIDE;
     *words = plain_scale_words(&it);
     return PIX_OK;
 }

@@ -510,8 +510,8 @@ typedef struct { uint32_t x, y; } pix_point;
 #define PIX_FILTER_COUNT (PIX_FILTER_LINEAR + 1)
 
 /* Returns how many words of work memory pix_scale takes for a window of the size `to`, of a new
- * picture of `size`, made of one of the size `from`. It is 0 if that is refused, and else at least 1.
- */
+ * picture of `size`, made of one of the size `from`. It is 0 where pix_scale returns PIX_BAD_FILTER,
+ * PIX_NO_SIDE or PIX_TOO_LARGE for these sizes, and else at least 1. */
 static inline size_t pix_scale_work(pix_size to, pix_size size, pix_size from, pix_filter filter);
 
 /* Writes a window of a picture at another size. `from` has the source, and `size` is that of the
@@ -536,7 +536,7 @@ static inline size_t pix_scale_work(pix_size to, pix_size size, pix_size from, p
  *
  * A premultiplied picture stays so. A side of the source is at most 65535. Both sides of an axis are
  * divided by their greatest common divisor first, which changes no pixel; then the sum of the weights
- * is 1 (nearest), the source's side (area), twice the new side (linear, enlarged) or 16384 (linear,
+ * is 1 (nearest), the source's side (area), twice the new side (linear, enlarged) or 32768 (linear,
  * made smaller). What PIX_TOO_LARGE refuses are products of both sums above 2147483647, and products
  * of that of the rows with the greatest channel above 4294967295.
  *

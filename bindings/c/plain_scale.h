@@ -8,7 +8,7 @@
 
 enum { PLAIN_NEAREST, PLAIN_AREA, PLAIN_LINEAR, PLAIN_FILTERS };
 /* What the rounded weights of a place add up to, where the plain ones have no sum of their own. */
-enum { PLAIN_SCALED = 1 << 14 };
+enum { PLAIN_SCALED = 1 << 15 };
 
 /* A side of `from` places that becomes one of `to`, both divided by what divides both. */
 typedef struct {
@@ -75,18 +75,17 @@ static inline uint64_t axis_taps(plain_axis it) {
     return (uint64_t)(axis_reach(it) / it.to + 3);
 }
 
-/* Rounds weights, and the first of the greatest takes what is missing. */
+/* Rounds the part that the weights up to each one have of all, to the nearest, ties up: a weight is the step of that. */
 static inline void axis_round(int32_t *weights, int64_t count) {
-    int64_t sum = 0, missing = PLAIN_SCALED, greatest = 0, k;
+    int64_t sum = 0, before = 0, mark = 0, k;
     for (k = 0; k < count; k++)
         sum += weights[k];
     for (k = 0; k < count; k++) {
-        weights[k] = (int32_t)((2 * (int64_t)weights[k] * PLAIN_SCALED + sum) / (2 * sum));
-        missing -= weights[k];
-        if (weights[k] > weights[greatest])
-            greatest = k;
+        const int64_t last = mark;
+        before += weights[k];
+        mark = (2 * before * PLAIN_SCALED + sum) / (2 * sum);
+        weights[k] = (int32_t)(mark - last);
     }
-    weights[greatest] += (int32_t)missing;
 }
 
 /* Writes what counts for the new place i: the first of the places, how many there are, and the weight of each. A place

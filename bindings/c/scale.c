@@ -310,7 +310,7 @@ static void work_memory(void) {
     CHECK(pix_scale_work_rgba16(some, all, all, PIX_FILTER_LINEAR) > 0 && pix_scale_work_graya8(none, all, all, PIX_FILTER_NEAREST) > 0);
     CHECK(!pix_scale_work(some, all, all, (pix_filter)PIX_FILTER_COUNT));
     CHECK(!pix_scale_work(some, none, all, PIX_FILTER_AREA) && !pix_scale_work(some, all, none, PIX_FILTER_AREA));
-    CHECK(!pix_scale_work(all, some, all, PIX_FILTER_AREA) && !pix_scale_work(some, all, long_side, PIX_FILTER_AREA));
+    CHECK(!pix_scale_work(some, all, long_side, PIX_FILTER_AREA));
     CHECK(pix_scale_work(some, all, longest, PIX_FILTER_AREA) > 0);
     CHECK(pix_scale_work(far_off, far_off, photo, PIX_FILTER_AREA) * sizeof(uint32_t) < 1000000);
 }

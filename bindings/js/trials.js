@@ -279,10 +279,9 @@ const WEIGHTS = {
     Linear: (n, m, i) => {
         const count = (j) => Math.max(0, 2 * Math.max(n, m) - distance(n, m, i, j));
         if (m >= n) return places(n, (j) => count(j) + (j ? 0 : count(-1)) + (j < n - 1 ? 0 : count(n)));
-        const total = places(n, count).reduce((sum, weight) => sum + weight);
-        const made = places(n, (j) => Math.floor((2 * 16384 * count(j) + total) / (2 * total)));
-        made[made.indexOf(Math.max(...made))] += 16384 - made.reduce((sum, weight) => sum + weight);
-        return made;
+        const upTo = (j) => places(j, count).reduce((sum, weight) => sum + weight, 0), total = upTo(n);
+        const mark = (j) => Math.floor((2 * 32768 * upTo(j) + total) / (2 * total));
+        return places(n, (j) => mark(j + 1) - mark(j));
     },
 };
 

@@ -19,7 +19,7 @@ try:
 except ImportError:
     pillow = None
 
-SIDE, ONE = 70, 1 << 14
+SIDE, ONE = 70, 1 << 15
 # Each kind of pixels: channels, the greatest one, and the code of its numbers in memory.
 KINDS = {pix.RGBA8: (4, 255, "B"), pix.RGBA16: (4, 65535, "H"), pix.GRAYA8: (2, 255, "B")}
 
@@ -51,11 +51,11 @@ def linear(n, m, i):
 
 
 def whole_of(weights):
-    """Weights scaled to 2^14, each rounded to the nearest; the first of the greatest takes what is missing."""
+    """Weights scaled to 2^15: the steps of the parts that the weights up to each place have of all, which are rounded to the
+    nearest, ties up."""
     total = sum(weights)
-    scaled = [(2 * ONE * weight + total) // (2 * total) for weight in weights]
-    scaled[scaled.index(max(scaled))] += ONE - sum(scaled)
-    return scaled
+    parts = [(2 * ONE * sum(weights[:count]) + total) // (2 * total) for count in range(len(weights) + 1)]
+    return [end - start for start, end in zip(parts, parts[1:])]
 
 
 WEIGHTS = {Filter.NEAREST: nearest, Filter.AREA: area, Filter.LINEAR: linear}

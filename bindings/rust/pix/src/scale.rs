@@ -41,7 +41,7 @@ fn answered(status: u32) -> Result<(), Error> {
 ///
 /// # Errors
 ///
-/// `NoSide`, `TooLarge` or `Outside`, as [`scale`] has them.
+/// `NoSide` or `TooLarge`, as [`scale`] has them.
 pub fn scale_work<P: Pixel>(
     to: (u32, u32),
     size: (u32, u32),
