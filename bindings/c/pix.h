@@ -535,10 +535,10 @@ static inline size_t pix_scale_work(pix_size to, pix_size size, pix_size from, p
  *         status = pix_convert_bitmap(pix_bitmap_view_of_bitmap(pix_bitmap_of_image_rgba16(small)), thumbnail);
  *
  * A premultiplied picture stays so. A side of the source is at most 65535. Both sides of an axis are
- * divided by their greatest common divisor first, which changes no pixel; then the sum of the weights
- * is 1 (nearest), the source's side (area), twice the new side (linear, enlarged) or 32768 (linear,
- * made smaller). What PIX_TOO_LARGE refuses are products of both sums above 2147483647, and products
- * of that of the rows with the greatest channel above 4294967295.
+ * divided by their greatest common divisor first, which changes no pixel. The sum of an axis'
+ * weights is then 1 (nearest) or the source's side (area). By PIX_FILTER_LINEAR it is twice the new
+ * side, or 32768 if that is the smaller one. PIX_TOO_LARGE is for products of both sums above
+ * 2147483647, and for products of the sum of the rows with the greatest channel above 4294967295.
  *
  * Returns PIX_OK, PIX_BAD_FILTER, PIX_NO_SIDE, PIX_TOO_LARGE, PIX_OUTSIDE, PIX_BAD_SIZE,
  * PIX_BAD_SOURCE, PIX_SMALL_WORK, PIX_BAD_LENGTH (more words than memory holds), PIX_NULL or
@@ -854,11 +854,12 @@ static inline pix_command_rgba16 pix_composite_image_matte8_rgba16(pix_region to
 /* ---- What libpix_c.a has ----
  *
  * The functions above call these, which are proved: pix_X calls pix_raw_X. They test sizes, kinds,
- * kinds, regions, operators, sources, formats, lengths, tables, indices, depths, strengths, filters
- * and work memory. Here no pointer may be null or badly aligned, even where its length is 0, and even
- * in commands of kinds that do not use it. The image, `done`, `dst` and `work` may share memory with
- * nothing else that is passed. Lengths are counted in elements. `stride` is at least the width, and 0 does not stand for
- * it. `serpentine` is 0 where all rows go from left to right. */
+ * regions, operators, sources, formats, lengths, tables, indices, depths, strengths, filters and
+ * work memory. Here no pointer may be null or badly aligned, even where its length is 0, and even
+ * in commands of kinds that do not use it. The image, `done`, `dst` and `work` may share memory
+ * with nothing else that is passed. Lengths are counted in elements. `stride` is at least the
+ * width, and 0 does not stand for it. `serpentine` is 0 where all rows go from left to right.
+ */
 
 uint32_t pix_raw_run(pix_rgba8 *pixels, size_t pixel_count, uint32_t width, uint32_t height, uint32_t stride,
                      const pix_command *commands, size_t command_count, size_t *done);
