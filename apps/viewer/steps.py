@@ -15,9 +15,11 @@ import subprocess
 import sys
 import tempfile
 
-from PIL import Image
-
 HERE = pathlib.Path(__file__).resolve().parent
+sys.path.insert(0, str(HERE.parent.parent / "tools"))
+sys.dont_write_bytecode = True
+import endings  # noqa: E402, F401
+
 PROGRAM = pathlib.Path(os.environ.get("APPS", HERE.parent / "out")) / "viewer"
 # What a user does, and what it is called.
 STEPS = [
@@ -40,6 +42,14 @@ def main(words):
     if words[:1] == ["--help"]:
         print(__doc__.strip())
         return
+    if len(words) not in (0, 2) or not all(word.isdigit() for word in words):
+        print(__doc__.strip(), file=sys.stderr)
+        sys.exit(2)
+    try:
+        from PIL import Image
+    except ImportError:
+        print("apps/viewer/steps.py: no Pillow, as in the package python3-pil", file=sys.stderr)
+        sys.exit(2)
     size = tuple(int(word) for word in words) or (6000, 4000)
     with tempfile.TemporaryDirectory() as folder:
         picture = pathlib.Path(folder) / "photograph.jpg"
