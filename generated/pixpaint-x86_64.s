@@ -3,7 +3,7 @@
  *
  * sources: 50904de536f2737aed112917714e9bc34f3520932985262a1f96863c55d5fc13, as tools/sources --sum pixpaint prints it
  * kit: rattle-kit-13f logic dac8208d650f15bf
- * verdict: logic=proved functions=1 axioms=6 target=x86_64-unknown-linux-gnu cpu=x86-64-v2 sum=dac8208d650f15bf native=nat,char,string logic-built=trusted libraries-built=trusted statements=trusted incremental=trusted
+ * verdict: logic=proved functions=1 axioms=6 target=x86_64-unknown-linux-gnu cpu=x86-64-v2 sum=dac8208d650f15bf native=nat,char,string logic-built=trusted libraries-built=trusted statements=trusted
  * made by: rattle build of crates/pixpaint, with clang -S -fno-verbose-asm -fno-addrsig in the place of clang -c
  * flags: --target=x86_64-unknown-linux-gnu -march=x86-64-v2
  */
