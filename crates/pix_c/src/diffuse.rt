@@ -18,8 +18,9 @@ pub(crate) const WHOLE: u8 = 16;
 /// Writes for each pixel, in rows of `width`, its index by error diffusion. The index is that of
 /// the entry that is nearest to the pixel plus its share of the errors before it. An error is what
 /// was wanted less the entry that was found. The pixel on the right gets 7 sixteenths of it, the
-/// one below on the left 3, the one below 5, and the one below on the right 1. It is held to
-/// 24 either way in each channel, so no color that is looked up is further from its pixel.
+/// one below on the left 3, the one below 5, and the one below on the right 1. It is held to a
+/// bound either way in each channel, so no color that is looked up is further from its pixel. The
+/// bound is half of the widest step between neighboring levels of the table, and at least 24.
 ///
 /// Returns 0 when they are written. Else nothing is written. The status is then 11 where there is
 /// no entry or more than 256. Otherwise it is 7, which has three causes: a row has no pixel, `work`

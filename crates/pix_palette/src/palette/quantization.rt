@@ -169,8 +169,9 @@ impl ColorTable {
     ///
     /// The error of a pixel is what was wanted there less the entry that was found. The pixel on
     /// the right gets 7 sixteenths of it, the one below on the left 3, the one below 5, and the one
-    /// below on the right 1. It is held to 24 either way in each channel, so the color that is
-    /// looked up for a pixel differs from it by at most 24 in each channel.
+    /// below on the right 1. It is held to a bound either way in each channel, so the color
+    /// that is looked up for a pixel differs from it by no more. The bound is half of the widest
+    /// step between neighboring levels of the table in a channel, and at least 24.
     ///
     /// # Errors
     ///
