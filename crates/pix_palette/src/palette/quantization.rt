@@ -434,6 +434,10 @@ fn diffused(
     }
     let mut indices = copies(alloc, 0, pixels.len())?;
     if pixels.is_empty() {
+        // Rows of one pixel serve too, and their work memory is on the stack.
+        let rows = Diffusion { width: 1, ..how };
+        let mut work = [Color::default(); 4];
+        diffuse_indexed(colors, pixels, rows, &mut work, &mut indices);
         return Ok(Some(indices));
     }
     let mut work = vec![in alloc; Color::default(); 4 * how.width]?;
