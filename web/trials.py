@@ -86,7 +86,7 @@ def see_operator(browser, id_, name, scheme):
 
 
 def see_operators(browser, scheme="light"):
-    """Compares each of the thirteen pictures, and the large one, with those that the fields ask for."""
+    """Compares the picture of each operator, and the large one, with those that the fields ask for."""
     wants("the operators", len(ORDER), len(OPERATORS))
     for number, name in enumerate(ORDER):
         see_operator(browser, f"operator-{number}", name, scheme)

@@ -48,12 +48,6 @@ static int place_of_format(pix_format format) {
 }
 #undef CASE_
 
-/* The letter of a color model in the plain model of bitmaps. */
-enum {
-    LETTER_Rgb = 'r', LETTER_Bgr = 'b', LETTER_Gray = 'g', LETTER_Matte = 'm', LETTER_Cmy = 'c', LETTER_Hsv = 'v',
-    LETTER_Hsl = 'l', LETTER_Hwb = 'w', LETTER_YCbCr = 'y', LETTER_Xyz = 'x'
-};
-
 static int failures;
 
 static void expect(int is_well, const char *list, const char *name, const char *what) {
@@ -78,7 +72,7 @@ static void expect_kind(pix_kind kind, const char *name) {
     expect(pix_do(pix_image_of(NULL, 0, 0), made) == PIX_OK, "kind", name, "refused");
 }
 
-static void expect_format(pix_format format, const char *name, char model) {
+static void expect_format(pix_format format, const char *name, plain_model model) {
     const plain_stored plain = plain_stored_of((uint32_t)format);
     expect(place_of_format(format) == (int)format, "format", name, "not at its number");
     expect(plain.model == model, "format", name, "of another model than the plain one");
@@ -92,7 +86,7 @@ int main(void) {
 #define EXPECT_(NAME, MAKER) expect_kind(PIX_KIND_##NAME, #MAKER);
     PIX_EACH_KIND(EXPECT_)
 #undef EXPECT_
-#define EXPECT_(NAME, MODEL) expect_format(PIX_FORMAT_##NAME, #NAME, LETTER_##MODEL);
+#define EXPECT_(NAME, MODEL) expect_format(PIX_FORMAT_##NAME, #NAME, MODEL_##MODEL);
     PIX_EACH_FORMAT(EXPECT_)
     expect(pix_format_size((pix_format)PIX_FORMAT_COUNT) == 0, "format", "past the last", "has a size");
     printf("lists: %d operators, %d kinds and %d formats, %d failures\n", PIX_OP_COUNT, PIX_KIND_COUNT, PIX_FORMAT_COUNT, failures);

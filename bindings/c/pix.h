@@ -128,16 +128,13 @@ typedef struct { int32_t x, y; uint32_t width, height; } pix_region;
  * pix_convert takes the formats up to PIX_FORMAT_SGRAY8, and pix_convert_bitmap takes all of them.
  */
 typedef enum {
-    PIX_FORMAT_SRGBA8 = 0,
-    PIX_FORMAT_SRGBA8P = 1,
-    PIX_FORMAT_RGBA8 = 2,
+    /* made by tools/names: formats */
+    PIX_FORMAT_SRGBA8 = 0, PIX_FORMAT_SRGBA8P = 1, PIX_FORMAT_RGBA8 = 2,
     PIX_FORMAT_RGBA8P = 3, /* the format of pix_rgba8 */
-    PIX_FORMAT_BGRA8 = 4,
-    PIX_FORMAT_BGRA8P = 5,
+    PIX_FORMAT_BGRA8 = 4, PIX_FORMAT_BGRA8P = 5,
     PIX_FORMAT_RGB8 = 6,
     PIX_FORMAT_GRAY8 = 7,
-    PIX_FORMAT_SBGRA8 = 8,
-    PIX_FORMAT_SBGRA8P = 9,
+    PIX_FORMAT_SBGRA8 = 8, PIX_FORMAT_SBGRA8P = 9,
     PIX_FORMAT_SRGB8 = 10,
     PIX_FORMAT_SGRAY8 = 11,
     PIX_FORMAT_RGBA16 = 12,
@@ -168,6 +165,7 @@ typedef enum {
     PIX_FORMAT_XYZA16 = 75, PIX_FORMAT_XYZA16P = 76,
     /* Three colors in four bytes: the last one is not read, and is written as 255. */
     PIX_FORMAT_SRGBX8 = 77, PIX_FORMAT_SBGRX8 = 78, PIX_FORMAT_RGBX8 = 79, PIX_FORMAT_BGRX8 = 80
+    /* made by tools/names: end */
 } pix_format;
 
 /* ---- Images: views of the caller's memory, passed by value ---- */
@@ -204,6 +202,7 @@ typedef struct { const uint16_t *values; uint32_t width, height, stride; } pix_m
  * the alphas as fractions. Products are rounded to the nearest, and a sum saturates at the maximum.
  */
 typedef enum {
+    /* made by tools/names: operators */
     PIX_OP_SRC = 0,        /* s */
     PIX_OP_DEST = 1,       /* d */
     PIX_OP_SRC_OVER = 2,   /* s + d * (1 - sa): the usual one */
@@ -217,6 +216,7 @@ typedef enum {
     PIX_OP_XOR = 10,       /* s * (1 - da) + d * (1 - sa) */
     PIX_OP_CLEAR = 11,     /* 0 */
     PIX_OP_PLUS = 12       /* s + d */
+    /* made by tools/names: end */
 } pix_op;
 
 /* What a call returns. */
@@ -301,6 +301,7 @@ static inline pix_view pix_view_of_image(pix_image image);
 
 /* What a command does. */
 typedef enum {
+    /* made by tools/names: kinds */
     PIX_KIND_CLEAR = 0,
     PIX_KIND_COPY_COLOR = 1,
     PIX_KIND_COPY_IMAGE = 2,
@@ -309,6 +310,7 @@ typedef enum {
     PIX_KIND_COMPOSITE_MATTE = 5,
     PIX_KIND_COMPOSITE_IMAGE_MATTE = 6,
     PIX_KIND_COMPOSITE_IMAGE_ALPHA = 7
+    /* made by tools/names: end */
 } pix_kind;
 
 /* A command, laid out as the library reads it. Make it with the functions below, and do not touch
@@ -759,19 +761,24 @@ static inline pix_command_rgba16 pix_composite_image_matte8_rgba16(pix_region to
  */
 
 /* An operator: its name behind PIX_OP_, and the word for it in scripts. */
+/* made by tools/names: each operator */
 #define PIX_EACH_OP(X)                                                                                                 \
     X(SRC, Src) X(DEST, Dest) X(SRC_OVER, SrcOver) X(DEST_OVER, DestOver) X(SRC_OUT, SrcOut) X(DEST_OUT, DestOut)      \
     X(SRC_IN, SrcIn) X(DEST_IN, DestIn) X(SRC_ATOP, SrcAtop) X(DEST_ATOP, DestAtop) X(XOR, Xor) X(CLEAR, Clear)        \
     X(PLUS, Plus)
+/* made by tools/names: end */
 
 /* A kind of commands: its name behind PIX_KIND_, and that of the function that makes such a
  * command, behind pix_. */
+/* made by tools/names: each kind */
 #define PIX_EACH_KIND(X)                                                                                               \
     X(CLEAR, clear) X(COPY_COLOR, copy_color) X(COPY_IMAGE, copy_image) X(COMPOSITE_COLOR, composite_color)            \
     X(COMPOSITE_IMAGE, composite_image) X(COMPOSITE_MATTE, composite_matte)                                            \
     X(COMPOSITE_IMAGE_MATTE, composite_image_matte) X(COMPOSITE_IMAGE_ALPHA, composite_image_alpha)
+/* made by tools/names: end */
 
 /* A format: its name behind PIX_FORMAT_, and its color model. */
+/* made by tools/names: each format */
 #define PIX_EACH_FORMAT(X)                                                                                             \
     X(SRGBA8, Rgb) X(SRGBA8P, Rgb) X(RGBA8, Rgb) X(RGBA8P, Rgb) X(BGRA8, Bgr) X(BGRA8P, Bgr) X(RGB8, Rgb)              \
     X(GRAY8, Gray) X(SBGRA8, Bgr) X(SBGRA8P, Bgr) X(SRGB8, Rgb) X(SGRAY8, Gray) X(RGBA16, Rgb) X(RGBA16P, Rgb)         \
@@ -785,6 +792,7 @@ static inline pix_command_rgba16 pix_composite_image_matte8_rgba16(pix_region to
     X(SHWB8, Hwb) X(SHWBA8, Hwb) X(SHWBA8P, Hwb) X(YCBCR8, YCbCr) X(YCBCRA8, YCbCr) X(YCBCRA8P, YCbCr)                 \
     X(YCBCR16, YCbCr) X(YCBCRA16, YCbCr) X(YCBCRA16P, YCbCr) X(XYZ8, Xyz) X(XYZA8, Xyz) X(XYZA8P, Xyz) X(XYZ16, Xyz)   \
     X(XYZA16, Xyz) X(XYZA16P, Xyz) X(SRGBX8, Rgb) X(SBGRX8, Bgr) X(RGBX8, Rgb) X(BGRX8, Bgr)
+/* made by tools/names: end */
 
 /* How many there are. A number from there on is refused. */
 #define PIX_OP_COUNT (0 PIX_EACH_OP(PIX_ONE_))

@@ -39,8 +39,10 @@ typedef struct {
 } plain_command;
 
 /* The coefficients of the operators, by their numbers: 0, 1, the other side's alpha (a), or one minus it (m). */
-static const char plain_source_by[] = "10" "1m" "m0" "a0" "am" "m0" "1";
-static const char plain_dest_by[] = "01" "m1" "0m" "0a" "ma" "m0" "1";
+/* made by tools/names: operators */
+static const char plain_source_by[] = "101mm0a0amm01";
+static const char plain_dest_by[] = "01m10m0amam01";
+/* made by tools/names: end */
 enum { PLAIN_OPERATORS = sizeof plain_source_by - 1 };
 
 static inline uint64_t plain_channel(const plain_kind *kind, const unsigned char *at, size_t channel) {

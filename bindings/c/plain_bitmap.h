@@ -5,55 +5,63 @@
 
 #include "plain.h"
 
-enum { PLAIN_STORED = 81 };
+/* The color models, and that of no format. */
+/* made by tools/names: models */
+typedef enum {
+    MODEL_NONE, MODEL_Rgb, MODEL_Bgr, MODEL_Cmy, MODEL_Gray, MODEL_Hsv, MODEL_Hsl, MODEL_Hwb, MODEL_YCbCr,
+    MODEL_Xyz, MODEL_Matte
+} plain_model;
+/* made by tools/names: end */
 
-/* A format: its model (r for RGB, b for BGR, g for gray, m for a matte, c for CMY, v for HSV, l for HSL, w for HWB, y for
- * YCbCr, x for XYZ, and 0 where there is no such format), whether it has an alpha, whether colors are multiplied by it and
- * encoded by the sRGB curve, whether channels have 16 bits, and whether a byte follows that says nothing. */
+/* A format: its model, whether it has an alpha, whether colors are multiplied by it and encoded by the sRGB curve, whether
+ * channels have 16 bits, and whether a byte follows that says nothing. */
 typedef struct {
-    char model;
+    plain_model model;
     int has_alpha, is_premultiplied, is_srgb, is_wide, is_opaque;
 } plain_stored;
 
+/* The formats in the order of their numbers. */
+/* made by tools/names: formats */
+enum { PLAIN_STORED = 81 };
+static const plain_stored plain_stored_formats[] = {
+    {MODEL_Rgb, 1, 0, 1, 0, 0}, {MODEL_Rgb, 1, 1, 1, 0, 0}, {MODEL_Rgb, 1, 0, 0, 0, 0}, {MODEL_Rgb, 1, 1, 0, 0, 0},
+    {MODEL_Bgr, 1, 0, 0, 0, 0}, {MODEL_Bgr, 1, 1, 0, 0, 0}, {MODEL_Rgb, 0, 0, 0, 0, 0}, {MODEL_Gray, 0, 0, 0, 0, 0},
+    {MODEL_Bgr, 1, 0, 1, 0, 0}, {MODEL_Bgr, 1, 1, 1, 0, 0}, {MODEL_Rgb, 0, 0, 1, 0, 0}, {MODEL_Gray, 0, 0, 1, 0, 0},
+    {MODEL_Rgb, 1, 0, 0, 1, 0}, {MODEL_Rgb, 1, 1, 0, 1, 0}, {MODEL_Rgb, 0, 0, 0, 1, 0}, {MODEL_Bgr, 1, 0, 0, 1, 0},
+    {MODEL_Bgr, 1, 1, 0, 1, 0}, {MODEL_Bgr, 0, 0, 0, 1, 0}, {MODEL_Bgr, 0, 0, 0, 0, 0}, {MODEL_Bgr, 0, 0, 1, 0, 0},
+    {MODEL_Gray, 1, 0, 0, 0, 0}, {MODEL_Gray, 1, 1, 0, 0, 0}, {MODEL_Gray, 1, 0, 1, 0, 0},
+    {MODEL_Gray, 1, 1, 1, 0, 0}, {MODEL_Gray, 0, 0, 0, 1, 0}, {MODEL_Gray, 1, 0, 0, 1, 0},
+    {MODEL_Gray, 1, 1, 0, 1, 0}, {MODEL_Matte, 1, 1, 0, 0, 0}, {MODEL_Matte, 1, 1, 0, 1, 0},
+    {MODEL_Cmy, 0, 0, 0, 0, 0}, {MODEL_Cmy, 1, 0, 0, 0, 0}, {MODEL_Cmy, 1, 1, 0, 0, 0}, {MODEL_Cmy, 0, 0, 0, 1, 0},
+    {MODEL_Cmy, 1, 0, 0, 1, 0}, {MODEL_Cmy, 1, 1, 0, 1, 0}, {MODEL_Cmy, 0, 0, 1, 0, 0}, {MODEL_Cmy, 1, 0, 1, 0, 0},
+    {MODEL_Cmy, 1, 1, 1, 0, 0}, {MODEL_Hsv, 0, 0, 0, 0, 0}, {MODEL_Hsv, 1, 0, 0, 0, 0}, {MODEL_Hsv, 1, 1, 0, 0, 0},
+    {MODEL_Hsv, 0, 0, 0, 1, 0}, {MODEL_Hsv, 1, 0, 0, 1, 0}, {MODEL_Hsv, 1, 1, 0, 1, 0}, {MODEL_Hsv, 0, 0, 1, 0, 0},
+    {MODEL_Hsv, 1, 0, 1, 0, 0}, {MODEL_Hsv, 1, 1, 1, 0, 0}, {MODEL_Hsl, 0, 0, 0, 0, 0}, {MODEL_Hsl, 1, 0, 0, 0, 0},
+    {MODEL_Hsl, 1, 1, 0, 0, 0}, {MODEL_Hsl, 0, 0, 0, 1, 0}, {MODEL_Hsl, 1, 0, 0, 1, 0}, {MODEL_Hsl, 1, 1, 0, 1, 0},
+    {MODEL_Hsl, 0, 0, 1, 0, 0}, {MODEL_Hsl, 1, 0, 1, 0, 0}, {MODEL_Hsl, 1, 1, 1, 0, 0}, {MODEL_Hwb, 0, 0, 0, 0, 0},
+    {MODEL_Hwb, 1, 0, 0, 0, 0}, {MODEL_Hwb, 1, 1, 0, 0, 0}, {MODEL_Hwb, 0, 0, 0, 1, 0}, {MODEL_Hwb, 1, 0, 0, 1, 0},
+    {MODEL_Hwb, 1, 1, 0, 1, 0}, {MODEL_Hwb, 0, 0, 1, 0, 0}, {MODEL_Hwb, 1, 0, 1, 0, 0}, {MODEL_Hwb, 1, 1, 1, 0, 0},
+    {MODEL_YCbCr, 0, 0, 0, 0, 0}, {MODEL_YCbCr, 1, 0, 0, 0, 0}, {MODEL_YCbCr, 1, 1, 0, 0, 0},
+    {MODEL_YCbCr, 0, 0, 0, 1, 0}, {MODEL_YCbCr, 1, 0, 0, 1, 0}, {MODEL_YCbCr, 1, 1, 0, 1, 0},
+    {MODEL_Xyz, 0, 0, 0, 0, 0}, {MODEL_Xyz, 1, 0, 0, 0, 0}, {MODEL_Xyz, 1, 1, 0, 0, 0}, {MODEL_Xyz, 0, 0, 0, 1, 0},
+    {MODEL_Xyz, 1, 0, 0, 1, 0}, {MODEL_Xyz, 1, 1, 0, 1, 0}, {MODEL_Rgb, 0, 0, 1, 0, 1}, {MODEL_Bgr, 0, 0, 1, 0, 1},
+    {MODEL_Rgb, 0, 0, 0, 0, 1}, {MODEL_Bgr, 0, 0, 0, 0, 1},
+};
+/* made by tools/names: end */
+
 static inline plain_stored plain_stored_of(uint32_t number) {
-    static const plain_stored common[] = {
-        {'r', 1, 0, 0, 1, 0}, {'r', 1, 1, 0, 1, 0}, {'r', 0, 0, 0, 1, 0}, {'b', 1, 0, 0, 1, 0}, {'b', 1, 1, 0, 1, 0},
-        {'b', 0, 0, 0, 1, 0}, {'b', 0, 0, 0, 0, 0}, {'b', 0, 0, 1, 0, 0}, {'g', 1, 0, 0, 0, 0}, {'g', 1, 1, 0, 0, 0},
-        {'g', 1, 0, 1, 0, 0}, {'g', 1, 1, 1, 0, 0}, {'g', 0, 0, 0, 1, 0}, {'g', 1, 0, 0, 1, 0}, {'g', 1, 1, 0, 1, 0},
-        {'m', 1, 1, 0, 0, 0}, {'m', 1, 1, 0, 1, 0},
-    };
-    /* of one model: without an alpha, with one, and multiplied by it */
-    static const plain_stored nine[] = {
-        {0, 0, 0, 0, 0, 0}, {0, 1, 0, 0, 0, 0}, {0, 1, 1, 0, 0, 0}, {0, 0, 0, 0, 1, 0}, {0, 1, 0, 0, 1, 0},
-        {0, 1, 1, 0, 1, 0}, {0, 0, 0, 1, 0, 0}, {0, 1, 0, 1, 0, 0}, {0, 1, 1, 1, 0, 0},
-    };
-    static const plain_stored opaque[] = {
-        {'r', 0, 0, 1, 0, 1}, {'b', 0, 0, 1, 0, 1}, {'r', 0, 0, 0, 0, 1}, {'b', 0, 0, 0, 0, 1},
-    };
-    plain_stored it = {0, 0, 0, 0, 0, 0};
-    if (number < PLAIN_FORMATS) {
-        const plain_format *buffer = &plain_formats[number];
-        plain_stored same = {buffer->model, buffer->has_alpha, buffer->is_premultiplied, buffer->is_srgb, 0, 0};
-        return same;
-    }
-    if (number < 29)
-        return common[number - PLAIN_FORMATS];
-    if (number < 77) { /* four models of nine formats, and two of six, which have none in sRGB */
-        it = number < 65 ? nine[(number - 29) % 9] : nine[(number - 65) % 6];
-        it.model = number < 65 ? "cvlw"[(number - 29) / 9] : "yx"[(number - 65) / 6];
-        return it;
-    }
-    return number < PLAIN_STORED ? opaque[number - 77] : it;
+    const plain_stored none = {MODEL_NONE, 0, 0, 0, 0, 0};
+    return number < PLAIN_STORED ? plain_stored_formats[number] : none;
 }
 
 /* How many colors a model has before the alpha. */
-static inline size_t plain_colors(char model) {
-    return model == 'm' ? 0 : model == 'g' ? 1 : 3;
+static inline size_t plain_colors(plain_model model) {
+    return model == MODEL_Matte ? 0 : model == MODEL_Gray ? 1 : 3;
 }
 
 /* The number of the first color that is no hue. */
-static inline size_t plain_first(char model) {
-    return model == 'v' || model == 'l' || model == 'w';
+static inline size_t plain_first(plain_model model) {
+    return model == MODEL_Hsv || model == MODEL_Hsl || model == MODEL_Hwb;
 }
 
 static inline size_t plain_stored_size(const plain_stored *it) {
@@ -112,39 +120,39 @@ static inline void plain_of_hue(uint64_t max, uint64_t color[3], uint64_t hue, u
         color[i] = plain_sum(max, color[i], lift);
 }
 
-static inline void plain_to_rgb(char model, uint64_t max, uint64_t color[3]) {
+static inline void plain_to_rgb(plain_model model, uint64_t max, uint64_t color[3]) {
     uint64_t one = color[0], two = color[1], three = color[2], chroma, white, black, room;
     switch (model) {
-    case 'b': plain_set_color(color, three, two, one); break;
-    case 'c': plain_set_color(color, max - one, max - two, max - three); break;
-    case 'g': plain_set_color(color, one, one, one); break;
-    case 'm': plain_set_color(color, max, max, max); break;
-    case 'v':
+    case MODEL_Bgr: plain_set_color(color, three, two, one); break;
+    case MODEL_Cmy: plain_set_color(color, max - one, max - two, max - three); break;
+    case MODEL_Gray: plain_set_color(color, one, one, one); break;
+    case MODEL_Matte: plain_set_color(color, max, max, max); break;
+    case MODEL_Hsv:
         chroma = plain_product(max, three, two);
         plain_of_hue(max, color, one, chroma, three - chroma);
         break;
-    case 'l':
+    case MODEL_Hsl:
         room = max - (2 * three > max ? 2 * three - max : max - 2 * three);
         chroma = plain_product(max, room, two);
         plain_of_hue(max, color, one, chroma, plain_less(three, plain_product(max, chroma, max / 2 + 1)));
         break;
-    case 'w':
+    case MODEL_Hwb:
         white = two + three > max ? plain_near(max, two * max, two + three) : two;
         black = two + three > max ? plain_near(max, three * max, two + three) : three;
         chroma = plain_less(max - black, white);
         plain_of_hue(max, color, one, chroma, max - black - chroma);
         break;
-    case 'y':
+    case MODEL_YCbCr:
         plain_set_color(color, plain_near(max, plain_less(1000 * one + 1402 * three, 701 * max), 1000),
                   plain_near(max, plain_less(1000000 * one + 529136 * max, 344136 * two + 714136 * three), 1000000),
                   plain_near(max, plain_less(1000 * one + 1772 * two, 886 * max), 1000));
         break;
-    case 'x':
+    case MODEL_Xyz:
         plain_set_color(color, plain_near(max, plain_less(32406 * one, 15372 * two + 4986 * three), 10000),
                   plain_near(max, plain_less(18758 * two + 415 * three, 9689 * one), 10000),
                   plain_near(max, plain_less(557 * one + 10570 * three, 2040 * two), 10000));
         break;
-    default: break;
+    case MODEL_NONE: case MODEL_Rgb: break;
     }
 }
 
@@ -168,35 +176,35 @@ static inline uint64_t plain_hue(uint64_t max, const uint64_t color[3], uint64_t
     return plain_near(max, max * turn, 6 * chroma);
 }
 
-static inline void plain_of_rgb(char model, uint64_t max, uint64_t color[3]) {
+static inline void plain_of_rgb(plain_model model, uint64_t max, uint64_t color[3]) {
     uint64_t red = color[0], green = color[1], blue = color[2], greatest = plain_greatest(color);
     uint64_t chroma = greatest - plain_least(color), hue = plain_hue(max, color, chroma), light, room;
     uint64_t luminance = plain_near(max, 2126 * red + 7152 * green + 722 * blue, 10000);
     switch (model) {
-    case 'b': plain_set_color(color, blue, green, red); break;
-    case 'c': plain_set_color(color, max - red, max - green, max - blue); break;
-    case 'g': plain_set_color(color, luminance, 0, 0); break;
-    case 'm': plain_set_color(color, 0, 0, 0); break;
-    case 'v': plain_set_color(color, hue, plain_quotient(max, chroma, greatest), greatest); break;
-    case 'l':
+    case MODEL_Bgr: plain_set_color(color, blue, green, red); break;
+    case MODEL_Cmy: plain_set_color(color, max - red, max - green, max - blue); break;
+    case MODEL_Gray: plain_set_color(color, luminance, 0, 0); break;
+    case MODEL_Matte: plain_set_color(color, 0, 0, 0); break;
+    case MODEL_Hsv: plain_set_color(color, hue, plain_quotient(max, chroma, greatest), greatest); break;
+    case MODEL_Hsl:
         light = plain_less(greatest, plain_product(max, chroma, max / 2 + 1));
         room = light < max - light ? light : max - light;
         plain_set_color(color, hue, plain_quotient(max, plain_less(greatest, light), room), light);
         break;
-    case 'w':
+    case MODEL_Hwb:
         light = max - plain_quotient(max, chroma, greatest);
         plain_set_color(color, hue, plain_product(max, light, greatest), max - greatest);
         break;
-    case 'y':
+    case MODEL_YCbCr:
         plain_set_color(color, plain_near(max, 299 * red + 587 * green + 114 * blue, 1000),
                   plain_near(max, plain_less(500000 * max + 500000 * blue, 168736 * red + 331264 * green), 1000000),
                   plain_near(max, plain_less(500000 * max + 500000 * red, 418688 * green + 81312 * blue), 1000000));
         break;
-    case 'x':
+    case MODEL_Xyz:
         plain_set_color(color, plain_near(max, 4124 * red + 3576 * green + 1805 * blue, 10000), luminance,
                   plain_near(max, 193 * red + 1192 * green + 9505 * blue, 10000));
         break;
-    default: break;
+    case MODEL_NONE: case MODEL_Rgb: break;
     }
 }
 

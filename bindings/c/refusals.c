@@ -239,6 +239,7 @@ static unsigned times(unsigned a, unsigned b) { return (2 * a * b + 255) / 510; 
 static unsigned composite(pix_op op, unsigned s, unsigned d, unsigned sa, unsigned da) {
     unsigned source = 0, dest = 0, sum;
     switch (op) {
+    /* made by tools/names: operators */
     case PIX_OP_SRC: source = 255; break;
     case PIX_OP_DEST: dest = 255; break;
     case PIX_OP_SRC_OVER: source = 255, dest = 255 - sa; break;
@@ -252,6 +253,7 @@ static unsigned composite(pix_op op, unsigned s, unsigned d, unsigned sa, unsign
     case PIX_OP_XOR: source = 255 - da, dest = 255 - sa; break;
     case PIX_OP_CLEAR: break;
     case PIX_OP_PLUS: source = 255, dest = 255; break;
+    /* made by tools/names: end */
     }
     sum = times(s, source) + times(d, dest);
     return sum < 255 ? sum : 255;

@@ -4,8 +4,10 @@ export type Region = readonly [x: number, y: number, width: number, height: numb
 export type Bytes = Uint8Array | Uint8ClampedArray;
 /** An operator of Porter and Duff, or the sum, by its number in `Op` or by its name. */
 export type AnyOp = OpName | number;
+// made by tools/names: operators
 export type OpName = 'Src' | 'Dest' | 'SrcOver' | 'DestOver' | 'SrcOut' | 'DestOut' | 'SrcIn' | 'DestIn' | 'SrcAtop' | 'DestAtop'
     | 'Xor' | 'Clear' | 'Plus';
+// made by tools/names: end
 export const Op: Readonly<Record<OpName, number>>;
 /** The formats of pix.h, without PIX_FORMAT_: ImageData has SRGBA8. */
 export const Format: Readonly<Record<string, number>>;

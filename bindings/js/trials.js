@@ -40,9 +40,11 @@ const product = (a, b, max) => Math.floor((2 * a * b + max) / (2 * max));
 const NONE = () => 0, ALL = (alpha, max) => max, ALPHA = (alpha) => alpha, REST = (alpha, max) => max - alpha;
 // Each operator's part of the source, by the alpha of the destination, and of the destination, by the alpha of the source.
 const PARTS = {
+    // made by tools/names: operators
     Src: [ALL, NONE], Dest: [NONE, ALL], SrcOver: [ALL, REST], DestOver: [REST, ALL], SrcOut: [REST, NONE], DestOut: [NONE, REST],
     SrcIn: [ALPHA, NONE], DestIn: [NONE, ALPHA], SrcAtop: [ALPHA, REST], DestAtop: [REST, ALPHA], Xor: [REST, REST],
     Clear: [NONE, NONE], Plus: [ALL, ALL],
+    // made by tools/names: end
 };
 const composed = (op, s, d, max) => d.map((channel, i) => Math.min(max,
     product(s[i], PARTS[op][0](d.at(-1), max), max) + product(channel, PARTS[op][1](s.at(-1), max), max)));

@@ -578,9 +578,11 @@ class Paintings(unittest.TestCase):
         sa, da = source[3], dest[3]
         na, nb = 255 - sa, 255 - da
         terms = {
+            # made by tools/names: operators
             "SRC": (255, 0), "DEST": (0, 255), "SRC_OVER": (255, na), "DEST_OVER": (nb, 255), "SRC_OUT": (nb, 0),
             "DEST_OUT": (0, na), "SRC_IN": (da, 0), "DEST_IN": (0, sa), "SRC_ATOP": (da, na), "DEST_ATOP": (nb, sa),
             "XOR": (nb, na), "CLEAR": (0, 0), "PLUS": (255, 255),
+            # made by tools/names: end
         }  # fmt: skip
         for op in pix.Op:
             by_source, by_dest = terms[op.name]

@@ -1,4 +1,4 @@
-// The thirteen operators on two shapes: a disc, the destination, and a square with round corners, the source. A visitor
+// The operators on two shapes: a disc, the destination, and a square with round corners, the source. A visitor
 // drags them, or moves them by keys or numbers, and chooses their colors and alphas.
 import { OPERATORS } from '../../bindings/js/facts.js';
 import { whole } from './library.js';

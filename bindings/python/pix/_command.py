@@ -11,8 +11,10 @@ from pix._pixels import PixelType, RegionRecord
 from pix._values import Op, Region, op_of, region_of, u32
 from pix._views import MASK8, Rows, View
 
+# made by tools/names: kinds
 NAMES = ("clear", "copy_color", "copy_image", "composite_color", "composite_image", "composite_matte",
          "composite_image_matte", "composite_image_alpha")  # fmt: skip
+# made by tools/names: end
 
 
 class Command:

@@ -27,6 +27,7 @@ class Op(IntEnum):
     and destination, and sa and da the alphas as fractions.
     """
 
+    # made by tools/names: operators
     SRC = 0  # s
     DEST = 1  # d
     SRC_OVER = 2  # s + d * (1 - sa): the usual one
@@ -40,6 +41,7 @@ class Op(IntEnum):
     XOR = 10  # s * (1 - da) + d * (1 - sa)
     CLEAR = 11  # 0
     PLUS = 12  # s + d
+    # made by tools/names: end
 
 
 class Format(IntEnum):
@@ -51,6 +53,7 @@ class Format(IntEnum):
     only the formats up to SGRAY8.
     """
 
+    # made by tools/names: formats
     SRGBA8 = 0
     SRGBA8P = 1
     RGBA8 = 2
@@ -132,6 +135,7 @@ class Format(IntEnum):
     SBGRX8 = 78
     RGBX8 = 79
     BGRX8 = 80
+    # made by tools/names: end
 
     @classmethod
     def _missing_(cls, value: object) -> None:

@@ -96,6 +96,7 @@ pub struct CommandRgba16 {
 
 /// Kinds of commands.
 pub mod kind {
+    // made by tools/names: kinds
     /// All pixels of the image become clear.
     pub const CLEAR: u32 = 0;
     /// A color replaces pixels.
@@ -112,6 +113,7 @@ pub mod kind {
     pub const COMPOSITE_IMAGE_MATTE: u32 = 6;
     /// A source is composited at an opacity.
     pub const COMPOSITE_IMAGE_ALPHA: u32 = 7;
+    // made by tools/names: end
 }
 
 /// The statuses that the functions return.

@@ -4,6 +4,12 @@ use pix_sys::{Command, Region, Rgba8, kind, pix_raw_convert, pix_raw_run, status
 
 const WHOLE: Region = Region::new(0, 0, 2, 1);
 
+// How many there are, which is the first number without one.
+// made by tools/names: counts
+const KINDS: u32 = 8;
+const OPERATORS: u32 = 13;
+// made by tools/names: end
+
 fn command(kind: u32) -> Command<Rgba8, u8> {
     static SOURCE: [Rgba8; 2] = [Rgba8::new(1, 2, 3, 255), Rgba8::new(4, 5, 6, 255)];
     static MATTES: [u8; 2] = [255, 0];
@@ -60,12 +66,12 @@ fn statuses_are_those_of_the_archive() {
     let good = command(kind::COPY_IMAGE);
     assert_eq!(run(2, good), (status::OK, [1, 4]));
     assert_eq!(run(3, good), untouched(status::BAD_SIZE));
-    assert_eq!(run(2, command(8)), untouched(status::BAD_KIND));
+    assert_eq!(run(2, command(KINDS)), untouched(status::BAD_KIND));
     let mut wrong = good;
     wrong.to.width = 1 << 31;
     assert_eq!(run(2, wrong), untouched(status::BAD_REGION));
     wrong = good;
-    wrong.op = 13;
+    wrong.op = OPERATORS;
     assert_eq!(run(2, wrong), untouched(status::BAD_OP));
     wrong = good;
     wrong.height = 2;

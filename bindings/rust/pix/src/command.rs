@@ -15,6 +15,7 @@ use pix_sys::kind;
 #[repr(u32)]
 #[derive(Clone, Copy, Debug, PartialEq, Eq, Hash)]
 pub enum Op {
+    // made by tools/names: operators
     /// s
     Src = 0,
     /// d
@@ -41,10 +42,12 @@ pub enum Op {
     Clear = 11,
     /// s + d
     Plus = 12,
+    // made by tools/names: end
 }
 
 impl Op {
     /// All operators, in the order of their numbers.
+    // made by tools/names: all operators
     pub const ALL: [Op; 13] = [
         Op::Src,
         Op::Dest,
@@ -60,6 +63,7 @@ impl Op {
         Op::Clear,
         Op::Plus,
     ];
+    // made by tools/names: end
 }
 
 /// A change of an image of pixels `P`. It borrows its source until it has run.

@@ -11,6 +11,7 @@ use pix_sys::status;
 #[repr(u32)]
 #[derive(Clone, Copy, Debug, PartialEq, Eq, Hash)]
 pub enum Format {
+    // made by tools/names: formats
     /// Red, green, blue, alpha; 8 bits, sRGB, straight.
     SRgba8 = 0,
     /// Red, green, blue, alpha; 8 bits, sRGB, multiplied by the alpha.
@@ -173,14 +174,17 @@ pub enum Format {
     Rgbx8 = 79,
     /// Blue, green, red, and a byte that is not read; 8 bits, linear.
     Bgrx8 = 80,
+    // made by tools/names: end
 }
 
 /// How many bytes a pixel has, by the number of its format.
+// made by tools/names: sizes
 const SIZES: [u8; 81] = [
     4, 4, 4, 4, 4, 4, 3, 1, 4, 4, 3, 1, 8, 8, 6, 8, 8, 6, 3, 3, 2, 2, 2, 2, 2, 4, 4, 1, 2, 3, 4, 4,
     6, 8, 8, 3, 4, 4, 3, 4, 4, 6, 8, 8, 3, 4, 4, 3, 4, 4, 6, 8, 8, 3, 4, 4, 3, 4, 4, 6, 8, 8, 3, 4,
     4, 3, 4, 4, 6, 8, 8, 3, 4, 4, 6, 8, 8, 4, 4, 4, 4,
 ];
+// made by tools/names: end
 
 impl Format {
     /// How many bytes a pixel has, from 1 to 8.

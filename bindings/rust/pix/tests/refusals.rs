@@ -201,6 +201,7 @@ fn composite(op: Op, s: u32, d: u32, sa: u32, da: u32) -> u32 {
     let times = |a: u32, b: u32| (2 * a * b + 255) / 510;
     let (na, nb) = (255 - sa, 255 - da);
     let (by_source, by_dest) = match op {
+        // made by tools/names: operators
         Op::Src => (255, 0),
         Op::Dest => (0, 255),
         Op::SrcOver => (255, na),
@@ -214,6 +215,7 @@ fn composite(op: Op, s: u32, d: u32, sa: u32, da: u32) -> u32 {
         Op::Xor => (nb, na),
         Op::Clear => (0, 0),
         Op::Plus => (255, 255),
+        // made by tools/names: end
     };
     (times(s, by_source) + times(d, by_dest)).min(255)
 }

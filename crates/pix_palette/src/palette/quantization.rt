@@ -169,9 +169,8 @@ impl ColorTable {
     ///
     /// The error of a pixel is what was wanted there less the entry that was found. The pixel on
     /// the right gets 7 sixteenths of it, the one below on the left 3, the one below 5, and the one
-    /// below on the right 1. It is held to a bound either way in each channel, so the color
-    /// that is looked up for a pixel differs from it by no more. The bound is half of the widest
-    /// step between neighboring levels of the table in a channel, and at least 24.
+    /// below on the right 1. It is held to a bound, so a color that is looked up for a pixel is no
+    /// further from it: half of the widest step between levels of a channel, and at least 24.
     ///
     /// # Errors
     ///
