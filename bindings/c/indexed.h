@@ -323,18 +323,45 @@ static inline uint8_t plain_corrected(int number, int sixteenths, int strength) 
     return (uint8_t)(sum < 0 ? 0 : sum / 256 > 255 ? 255 : sum / 256);
 }
 
-/* What is handed on of an error: at most 24 either way, so that no color that is looked up is further from its pixel. */
-static inline int plain_bounded(int error) {
-    return error < -24 ? -24 : error > 24 ? 24 : error;
+/* The widest step from a level of a channel to the next, of levels that are marked. */
+static inline int plain_widest(const uint8_t *is_level) {
+    int level, last = -1, widest = 0;
+    for (level = 0; level < 256; level++)
+        if (is_level[level]) {
+            if (last >= 0 && level - last > widest)
+                widest = level - last;
+            last = level;
+        }
+    return widest;
+}
+
+/* The greatest error that is handed on, for the levels of four channels: half of the widest step, rounded up, but at least 24. */
+static inline int plain_bound(uint8_t is_level[4][256]) {
+    int channel, bound = 24;
+    for (channel = 0; channel < 4; channel++) {
+        const int half = (plain_widest(is_level[channel]) + 1) / 2;
+        bound = half > bound ? half : bound;
+    }
+    return bound;
+}
+
+/* What is handed on of an error: at most the bound either way, so that no color that is looked up is further from its pixel. */
+static inline int plain_bounded(int error, int bound) {
+    return error < -bound ? -bound : error > bound ? bound : error;
 }
 
 /* Indices by error diffusion: each pixel hands its error on to those that come after it, within a bound. */
 static inline void plain_diffuse(const pix_srgb8 *entries, size_t len, const pix_srgba8 *pixels, size_t count, size_t width,
                                  uint8_t alpha, uint8_t transparent_index, pix_diffusion how, uint8_t *indices) {
     int(*errors)[4] = (int(*)[4])calloc(count + 1, sizeof *errors);
-    size_t step;
+    uint8_t is_level[4][256] = {{0}};
+    size_t step, i;
+    int bound;
     if (!errors)
         abort();
+    for (i = 0; i < len; i++)
+        is_level[0][entries[i].r] = is_level[1][entries[i].g] = is_level[2][entries[i].b] = 1;
+    bound = plain_bound(is_level);
     for (step = 0; step < count; step++) {
         long ahead;
         const size_t k = plain_place(step, width, how.serpentine, &ahead);
@@ -348,9 +375,9 @@ static inline void plain_diffuse(const pix_srgb8 *entries, size_t len, const pix
         wanted.g = plain_corrected(pixels[k].g, errors[k][1], how.strength);
         wanted.b = plain_corrected(pixels[k].b, errors[k][2], how.strength);
         indices[k] = plain_nearest(entries, len, wanted);
-        error[0] = plain_bounded(wanted.r - entries[indices[k]].r);
-        error[1] = plain_bounded(wanted.g - entries[indices[k]].g);
-        error[2] = plain_bounded(wanted.b - entries[indices[k]].b);
+        error[0] = plain_bounded(wanted.r - entries[indices[k]].r, bound);
+        error[1] = plain_bounded(wanted.g - entries[indices[k]].g, bound);
+        error[2] = plain_bounded(wanted.b - entries[indices[k]].b, bound);
         plain_hand_all(errors, count, width, k, ahead, error);
     }
     free(errors);

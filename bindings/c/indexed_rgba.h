@@ -353,9 +353,14 @@ static inline int plain_least(int x, int y) {
 static inline void plain_seen_diffuse(const plain_seen *entries, size_t len, const pix_srgba8 *pixels, size_t count, size_t width,
                                       pix_diffusion how, uint8_t *indices) {
     int(*errors)[4] = (int(*)[4])calloc(count + 1, sizeof *errors);
+    uint8_t is_level[4][256] = {{0}};
     size_t step;
+    int bound;
     if (!errors)
         abort();
+    for (step = 0; step < 4 * len; step++)
+        is_level[step % 4][plain_seen_number(entries[step / 4], (int)(step % 4))] = 1;
+    bound = plain_bound(is_level);
     for (step = 0; step < count; step++) {
         long ahead;
         const size_t k = plain_place(step, width, how.serpentine, &ahead);
@@ -372,7 +377,7 @@ static inline void plain_seen_diffuse(const plain_seen *entries, size_t len, con
         if (!pixels[k].a)
             continue;
         for (channel = 0; channel < 4; channel++)
-            error[channel] = plain_bounded((int)plain_seen_number(wanted, channel) - (int)plain_seen_number(entries[indices[k]], channel));
+            error[channel] = plain_bounded((int)plain_seen_number(wanted, channel) - (int)plain_seen_number(entries[indices[k]], channel), bound);
         plain_hand_all(errors, count, width, k, ahead, error);
     }
     free(errors);

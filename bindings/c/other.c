@@ -292,7 +292,7 @@ static void diffuse_colors(const pix_srgb8 *entries, size_t len, const pix_srgba
                            uint8_t alpha, uint8_t transparent_index, uint8_t strength, uint8_t serpentine, uint8_t *indices) {
     seen table[256], *colors = zeros(count, sizeof *colors);
     uint8_t *is_apart = zeros(count, 1);
-    diffusion it = {table, colors, is_apart, len, count, width, transparent_index, strength, serpentine, NULL, NULL};
+    diffusion it = {table, colors, is_apart, len, count, width, transparent_index, strength, serpentine, NULL, NULL, 0};
     for (size_t i = 0; i < len; i++)
         table[i] = opaque_seen(entries[i]);
     for (size_t i = 0; i < count; i++) {
@@ -352,7 +352,7 @@ uint32_t pix_raw_diffuse_indexed_rgba(const pix_srgba8 *entries, size_t len, con
     is_apart = zeros(pixel_count, 1);
     for (size_t i = 0; i < pixel_count; i++)
         is_apart[i] = !pixels[i].a;
-    diffusion it = {table, colors, is_apart, len, pixel_count, width, -1, strength, serpentine, NULL, NULL};
+    diffusion it = {table, colors, is_apart, len, pixel_count, width, -1, strength, serpentine, NULL, NULL, 0};
     diffuse_all(&it, indices);
     free(table);
     free(colors);

@@ -61,6 +61,7 @@ typedef struct {
     size_t len, count, width;
     int transparent_index, strength, serpentine;
     seen *wanted, *found;
+    int leeway;
 } diffusion;
 
 /* What was wanted less what was found at the pixel that lies so far before pixel k, against the way of its row, in a channel. */
@@ -84,11 +85,32 @@ static inline int shared(const diffusion *it, size_t k, int channel) {
     return sum < 0 ? 0 : sum / 256 > 255 ? 255 : sum / 256;
 }
 
-/* The number that counts as found: the entry's, brought to one that is no further than 24 from what was wanted. */
-static inline int brought(int found, int wanted) {
-    while (found > wanted + 24)
+/* How far the next greater number of an entry is above that of the entry i, in a channel, or 0 where there is none. */
+static inline int step_above(const diffusion *it, size_t i, int channel) {
+    int least = 0;
+    for (size_t j = 0; j < it->len; j++) {
+        const int step = it->entries[j].n[channel] - it->entries[i].n[channel];
+        if (step > 0 && (!least || step < least))
+            least = step;
+    }
+    return least;
+}
+
+/* How far what is found may be from what is wanted: 24, or half of a wider step of the entries in a channel, rounded up. */
+static inline int leeway(const diffusion *it) {
+    int most = 24;
+    for (size_t i = 0; i < it->len; i++)
+        for (int channel = 0; channel < 4; channel++)
+            while (2 * most < step_above(it, i, channel))
+                most++;
+    return most;
+}
+
+/* The number that counts as found: the entry's, brought to one that is no further than that from what was wanted. */
+static inline int brought(const diffusion *it, int found, int wanted) {
+    while (found > wanted + it->leeway)
         found--;
-    while (found < wanted - 24)
+    while (found < wanted - it->leeway)
         found++;
     return found;
 }
@@ -107,10 +129,11 @@ static inline void diffuse_at(const diffusion *it, size_t k, uint8_t *indices) {
     }
     indices[k] = seen_nearest(it->entries, it->len, *wanted);
     for (int channel = 0; channel < 4; channel++)
-        it->found[k].n[channel] = brought(it->entries[indices[k]].n[channel], wanted->n[channel]);
+        it->found[k].n[channel] = brought(it, it->entries[indices[k]].n[channel], wanted->n[channel]);
 }
 
 static inline void diffuse_all(diffusion *it, uint8_t *indices) {
+    it->leeway = leeway(it);
     it->wanted = zeros(it->count, sizeof *it->wanted);
     it->found = zeros(it->count, sizeof *it->found);
     for (size_t row = 0; row * it->width < it->count; row++)

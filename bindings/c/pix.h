@@ -567,9 +567,10 @@ static inline pix_status pix_quantize_refined_alpha(const pix_srgba8 *pixels, si
  *
  *   - The target is, in each channel, the pixel's number plus its share of the errors before it.
  *     It is rounded to the nearest, a half up, and clamped to 0 to 255.
- *   - A pixel's error is the target less the chosen entry, and at most 24 either way in each
- *     channel. It is a whole number. So no target is further than 24 from its pixel: errors of a
- *     table that lacks a color don't run away.
+ *   - A pixel's error is the target less the chosen entry, within a bound either way in each
+ *     channel. The bound is half of the widest step from a level of a channel of the table to the
+ *     next, a half up, and at least 24. So no target is further than the bound from its pixel:
+ *     errors of a table that lacks a color don't run away.
  *   - 12/16 of it are passed on. Of these, 7/16 go to the pixel on the right. In the next row, 3/16
  *     go to the pixel on the left, 5/16 to the one below, and 1/16 to the one on the right. Shares
  *     past the sides of a row are lost.
@@ -682,9 +683,9 @@ static inline pix_status pix_quantize_rgba(const pix_srgba8 *pixels, size_t coun
 static inline pix_status pix_map_indexed_rgba(pix_table_rgba table, const pix_srgba8 *pixels, size_t count, uint8_t *indices);
 
 /* Writes the index of each pixel, with error diffusion to a table of colors with an alpha, as
- * pix_diffuse_indexed_by does. Errors are those of the colors over black and of the alpha, at most
- * 24 either way. A target color is clamped to the target alpha. A clear pixel (alpha 0) gets the
- * entry that is seen nearest to it, takes no share, and passes on no error. `work` has
+ * pix_diffuse_indexed_by does. Errors are those of the colors over black and of the alpha, and so
+ * are the levels of the bound. A target color is clamped to the target alpha. A clear pixel (alpha
+ * 0) gets the entry that is seen nearest to it, takes no share, and passes on no error. `work` has
  * pix_diffuse_indexed_work(width) pixels. */
 static inline pix_status pix_diffuse_indexed_rgba(pix_table_rgba table, const pix_srgba8 *pixels, size_t count, size_t width,
                                                   pix_diffusion how, pix_srgba8 *work, uint8_t *indices);

@@ -294,25 +294,25 @@ static void made_refused(void) {
     check(index[0] == 9 && index[1] == 9 && entries[0].r == 1 && some[1].g == 1 && room[0].r == 5, "what is refused stays");
 }
 
-/* By hand: two rows of two pixels of 120, in black and white. 120 is black and hands 24 of its error on, so its neighbor, with 168
- * sixteenths, is 131 and white. From right to left the last pixel is the first of its row: it gets 24 - 120 sixteenths, is 114 and
- * black, and hands 168 on. 100 stays black: what is wanted is at most 124. */
+/* By hand: two rows of two pixels of 100, in black and white. 100 is black and hands on its error, so its neighbor, with 700
+ * sixteenths, is 144 and white. From right to left the last pixel is the first of its row: it gets 100 - 555 sixteenths, is 72 and
+ * black, and hands 504 on. In black and a gray of 48, 255 hands on 24 of its error of 207, so that 10 is 21 and black at most. */
 static void diffused_by_hand(void) {
     static const struct { pix_diffusion how; uint8_t indices[4]; } rows[] = {
         {{16, false}, {0, 1, 0, 0}}, {{16, true}, {0, 1, 1, 0}}, {{8, true}, {0, 0, 1, 0}}, {{0, true}, {0, 0, 0, 0}}};
-    static const pix_srgb8 entries[2] = {{0, 0, 0}, {255, 255, 255}};
+    static const pix_srgb8 entries[2] = {{0, 0, 0}, {255, 255, 255}}, dark[2] = {{0, 0, 0}, {48, 48, 48}};
+    static const pix_srgb8 held[2] = {{255, 255, 255}, {10, 10, 10}};
     pix_srgb8 gray[4], room[8];
     uint8_t found[4];
     size_t i;
-    memset(gray, 120, sizeof gray);
+    memset(gray, 100, sizeof gray);
     for (i = 0; i < sizeof rows / sizeof *rows; i++) {
         check(pix_diffuse_indexed_by(pix_table_of(entries, 2), gray, 4, 2, rows[i].how, room, found) == PIX_OK, "a row by hand");
         check(!memcmp(found, rows[i].indices, sizeof found), "a row by hand is another one");
     }
-    memset(gray, 100, sizeof gray);
     for (i = 0; i < sizeof rows / sizeof *rows; i++) {
-        check(pix_diffuse_indexed_by(pix_table_of(entries, 2), gray, 4, 2, rows[i].how, room, found) == PIX_OK, "dark by hand");
-        check(!memcmp(found, rows[3].indices, sizeof found), "errors are not held to their bound");
+        check(pix_diffuse_indexed_by(pix_table_of(dark, 2), held, 2, 2, rows[i].how, room, found) == PIX_OK, "light by hand");
+        check(found[0] == 1 && found[1] == 0, "errors are not held to their bound");
     }
 }
 

@@ -239,9 +239,16 @@ export const trials = {
     },
 };
 
+// The greatest error that is handed on: half of the widest step from a level of a channel to the next, but at least 24.
+function errorBound(table) {
+    const levels = (c) => [...new Set(table.filter((_, i) => i % 3 === c))].sort((a, b) => a - b);
+    const steps = [0, 1, 2].flatMap((c) => levels(c).map((level, i, all) => level - (all[i - 1] ?? level)));
+    return Math.max(24, ...steps.map((step) => Math.ceil(step / 2)));
+}
+
 // Error diffusion by Floyd and Steinberg, as documented in pix.h.
 function diffusedBy(table, pixels, width, nearest, { strength, serpentine } = { strength: 12, serpentine: true }) {
-    const made = new Uint8Array(pixels.length / 3), errors = new Map();
+    const made = new Uint8Array(pixels.length / 3), errors = new Map(), bound = errorBound(table);
     const owed = (x, y) => errors.get(`${x},${y}`) ?? [0, 0, 0];
     for (let i = 0; i < pixels.length / 3; i += 1) {
         const y = Math.floor(i / width), way = serpentine && y % 2 ? -1 : 1, x = way > 0 ? i % width : width - 1 - (i % width);
@@ -252,8 +259,7 @@ function diffusedBy(table, pixels, width, nearest, { strength, serpentine } = { 
         for (const [dx, dy, part] of [[1, 0, 7], [-1, 1, 3], [0, 1, 5], [1, 1, 1]]) {
             const at = [x + way * dx, y + dy];
             if (at[0] >= 0 && at[0] < width) {
-                // An error is at most 24 either way.
-                const held = (c) => Math.min(24, Math.max(-24, wanted[c] - table[3 * index + c]));
+                const held = (c) => Math.min(bound, Math.max(-bound, wanted[c] - table[3 * index + c]));
                 errors.set(`${at}`, owed(...at).map((share, c) => share + part * held(c)));
             }
         }

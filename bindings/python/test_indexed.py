@@ -157,9 +157,17 @@ def settled(entry, group):
     return mean(group) if group and error(mean(group)) <= error(entry) else entry
 
 
-def plain_diffused(width, pixels, strength, serpentine, chosen):
+def error_bound(colors):
+    """The greatest error that is handed on: half of the widest step from a level of a channel to the next, rounded up, but
+    at least 24."""
+    levels = [sorted(set(channel)) for channel in zip(*colors)]
+    steps = [high - low for channel in levels for low, high in zip(channel, channel[1:])]
+    return max([24, *((step + 1) // 2 for step in steps)])
+
+
+def plain_diffused(width, pixels, strength, serpentine, bound, chosen):
     """Error diffusion: `chosen` has, for a pixel and the function from a number and what it got to what is wanted, the
-    index and the errors, or no errors."""
+    index and the errors, or no errors. What is handed on of them is within the bound."""
     got, indices = {}, bytearray(len(pixels))
     for y in range(len(pixels) // width):
         way = -1 if serpentine and y % 2 else 1
@@ -167,7 +175,7 @@ def plain_diffused(width, pixels, strength, serpentine, chosen):
             took = got.get((x, y), (0,) * 4)
             wanted = lambda i, number: min(255, max(0, (256 * number + 128 + strength * took[i]) // 256))
             indices[width * y + x], errors = chosen(pixels[width * y + x], wanted)
-            errors = errors and [max(-24, min(24, error)) for error in errors]
+            errors = errors and [max(-bound, min(bound, error)) for error in errors]
             for right, down, share in ((way, 0, 7), (-way, 1, 3), (0, 1, 5), (way, 1, 1)):
                 at = x + right, y + down
                 if errors and 0 <= at[0] < width:
@@ -295,11 +303,12 @@ class Tables(unittest.TestCase):
         self.assertEqual(pix.diffuse_indexed(grays, bytes(3 * 64), 8), bytes(64))
         self.assertEqual(sum(pix.diffuse_indexed(grays, half, 64)), 32)
         self.assertIn(sum(pix.diffuse_indexed(grays, half, 8)), range(28, 37))
-        # By hand: 120 is black and hands on 7 sixteenths of 24, of which 12 of 16 are passed on: 120 and 7.875 are 128, which is
+        # By hand: 120 is black and hands on 7 sixteenths of it, of which 12 of 16 are passed on: 120 and 39.375 are 159, which is
         # white; and so on.
         self.assertEqual(pix.diffuse_indexed(grays, bytes([120]) * 12, 4), b"\0\1\0\1")
-        # What is wanted of 100 is at most 124, which is black.
-        self.assertEqual(pix.diffuse_indexed(grays, bytes([100]) * 12, 4), bytes(4))
+        # The bound of black and 48 is 24, so that what is wanted of 10 is at most 34, and here 18.
+        dark = joined([(0, 0, 0), (48, 48, 48)])
+        self.assertEqual(pix.diffuse_indexed(dark, joined([(255, 255, 255), (10, 10, 10)]), 2), b"\1\0")
         clear = joined([(100, 100, 100, 0), (100, 100, 100, 255)])
         found = pix.diffuse_indexed(grays, clear, 2, format=pix.Format.SRGBA8, alpha=1, transparent_index=9)
         self.assertEqual(found, b"\x09\0")
@@ -313,10 +322,10 @@ class Tables(unittest.TestCase):
             table = [color[:3] for color in any_pixels(chance, chance.randrange(1, 7))]
             for serpentine in (False, True):
                 how = {"strength": strength, "serpentine": serpentine}
-                wanted = plain_diffused(width, pixels, strength, serpentine, by_colors(table, 0, 0))
+                wanted = plain_diffused(width, pixels, strength, serpentine, error_bound(table), by_colors(table, 0, 0))
                 found = pix.diffuse_indexed(joined(table), joined(pixel[:3] for pixel in pixels), width, **how)
                 self.assertEqual(found, wanted)
-                wanted = plain_diffused(width, pixels, strength, serpentine, by_colors(table, 2, 9))
+                wanted = plain_diffused(width, pixels, strength, serpentine, error_bound(table), by_colors(table, 2, 9))
                 found = pix.diffuse_indexed(joined(table), joined(pixels), width, None, pix.SRGBA8, 2, 9, **how)
                 self.assertEqual(found, wanted)
         noise = bytes(chance.randrange(256) for _ in range(300))
@@ -357,7 +366,7 @@ class Tables(unittest.TestCase):
             width, high, strength = chance.randrange(1, 9), chance.randrange(5), chance.randrange(17)
             pixels, table = any_pixels(chance, width * high), any_pixels(chance, chance.randrange(1, 7))
             for serpentine in (False, True):
-                wanted = plain_diffused(width, pixels, strength, serpentine, by_alphas(table))
+                wanted = plain_diffused(width, pixels, strength, serpentine, error_bound(map(seen, table)), by_alphas(table))
                 found = pix.diffuse_indexed_rgba(joined(table), joined(pixels), width, None, strength, serpentine)
                 self.assertEqual(found, wanted)
 

@@ -12,7 +12,7 @@ use Rattle.pix_chan.specs.Modes.{Straight, Srgb}
 use Rattle.pix_el.specs.Pixel.{channel}
 use Rattle.pix_el.specs.Conversion.{converted, within_model, across_models}
 use Rattle.pix_bytes.specs.Bitmap.{IsConvertedBitmap, crossed, is_wide, is_srgb}
-use Rattle.pix_bytes.specs.Converted.{IsConverted}
+use Rattle.pix_bytes.specs.Converted.{IsConverted, pixel_at}
 use Rattle.pix_bytes.specs.Formats.{BufferFormat, channels, channels_of, formats, rgb}
 use Rattle.pix_bytes.specs.Rows.{stored_of}
 use Rattle.pix_bytes.specs.declared.bitmap.format.FormatParts.{FormatParts}
@@ -29,36 +29,28 @@ numbered n = unwrap_or (slice_get formats n) (rgb 4 Straight Srgb)
 pub numbered_is : (n : ℕ) (buffer : BufferFormat) → slice_get formats n ≡ Some buffer → n < 12 → numbered n ≡ buffer
 numbered_is n buffer e lt = ap (λ (o : Option BufferFormat). unwrap_or o (rgb 4 Straight Srgb)) e
 
+-- what holds for each of twelve numbers holds for any below twelve
+each_of : (P : ℕ → Type 0) → P 0 → P 1 → P 2 → P 3 → P 4 → P 5 → P 6 → P 7 → P 8 → P 9 → P 10 → P 11 → (n : ℕ) → n < 12 → P n
+each_of P p0 p1 p2 p3 p4 p5 p6 p7 p8 p9 p10 p11 zero lt = p0
+each_of P p0 p1 p2 p3 p4 p5 p6 p7 p8 p9 p10 p11 (suc zero) lt = p1
+each_of P p0 p1 p2 p3 p4 p5 p6 p7 p8 p9 p10 p11 (suc (suc zero)) lt = p2
+each_of P p0 p1 p2 p3 p4 p5 p6 p7 p8 p9 p10 p11 (suc (suc (suc zero))) lt = p3
+each_of P p0 p1 p2 p3 p4 p5 p6 p7 p8 p9 p10 p11 (suc (suc (suc (suc zero)))) lt = p4
+each_of P p0 p1 p2 p3 p4 p5 p6 p7 p8 p9 p10 p11 (suc (suc (suc (suc (suc zero))))) lt = p5
+each_of P p0 p1 p2 p3 p4 p5 p6 p7 p8 p9 p10 p11 (suc (suc (suc (suc (suc (suc zero)))))) lt = p6
+each_of P p0 p1 p2 p3 p4 p5 p6 p7 p8 p9 p10 p11 (suc (suc (suc (suc (suc (suc (suc zero))))))) lt = p7
+each_of P p0 p1 p2 p3 p4 p5 p6 p7 p8 p9 p10 p11 (suc (suc (suc (suc (suc (suc (suc (suc zero)))))))) lt = p8
+each_of P p0 p1 p2 p3 p4 p5 p6 p7 p8 p9 p10 p11 (suc (suc (suc (suc (suc (suc (suc (suc (suc zero))))))))) lt = p9
+each_of P p0 p1 p2 p3 p4 p5 p6 p7 p8 p9 p10 p11 (suc (suc (suc (suc (suc (suc (suc (suc (suc (suc zero)))))))))) lt = p10
+each_of P p0 p1 p2 p3 p4 p5 p6 p7 p8 p9 p10 p11 (suc (suc (suc (suc (suc (suc (suc (suc (suc (suc (suc zero))))))))))) lt = p11
+each_of P p0 p1 p2 p3 p4 p5 p6 p7 p8 p9 p10 p11 (suc (suc (suc (suc (suc (suc (suc (suc (suc (suc (suc (suc k)))))))))))) lt = absurd (omega (arith, lt))
+
 -- the first twelve formats of bitmaps are those of buffers
 pub stored_is : (n : ℕ) → n < 12 → slice_get stored_formats n ≡ Some (bare (numbered n))
-stored_is zero lt = refl
-stored_is (suc zero) lt = refl
-stored_is (suc (suc zero)) lt = refl
-stored_is (suc (suc (suc zero))) lt = refl
-stored_is (suc (suc (suc (suc zero)))) lt = refl
-stored_is (suc (suc (suc (suc (suc zero))))) lt = refl
-stored_is (suc (suc (suc (suc (suc (suc zero)))))) lt = refl
-stored_is (suc (suc (suc (suc (suc (suc (suc zero))))))) lt = refl
-stored_is (suc (suc (suc (suc (suc (suc (suc (suc zero)))))))) lt = refl
-stored_is (suc (suc (suc (suc (suc (suc (suc (suc (suc zero))))))))) lt = refl
-stored_is (suc (suc (suc (suc (suc (suc (suc (suc (suc (suc zero)))))))))) lt = refl
-stored_is (suc (suc (suc (suc (suc (suc (suc (suc (suc (suc (suc zero))))))))))) lt = refl
-stored_is (suc (suc (suc (suc (suc (suc (suc (suc (suc (suc (suc (suc k)))))))))))) lt = absurd (omega (arith, lt))
+stored_is = each_of (λ n. slice_get stored_formats n ≡ Some (bare (numbered n))) refl refl refl refl refl refl refl refl refl refl refl refl
 
 pub max_is : (n : ℕ) → n < 12 → (numbered n).format.layout.max ≡ 255
-max_is zero lt = refl
-max_is (suc zero) lt = refl
-max_is (suc (suc zero)) lt = refl
-max_is (suc (suc (suc zero))) lt = refl
-max_is (suc (suc (suc (suc zero)))) lt = refl
-max_is (suc (suc (suc (suc (suc zero))))) lt = refl
-max_is (suc (suc (suc (suc (suc (suc zero)))))) lt = refl
-max_is (suc (suc (suc (suc (suc (suc (suc zero))))))) lt = refl
-max_is (suc (suc (suc (suc (suc (suc (suc (suc zero)))))))) lt = refl
-max_is (suc (suc (suc (suc (suc (suc (suc (suc (suc zero))))))))) lt = refl
-max_is (suc (suc (suc (suc (suc (suc (suc (suc (suc (suc zero)))))))))) lt = refl
-max_is (suc (suc (suc (suc (suc (suc (suc (suc (suc (suc (suc zero))))))))))) lt = refl
-max_is (suc (suc (suc (suc (suc (suc (suc (suc (suc (suc (suc (suc k)))))))))))) lt = absurd (omega (arith, lt))
+max_is = each_of (λ n. (numbered n).format.layout.max ≡ 255) refl refl refl refl refl refl refl refl refl refl refl refl
 
 long : (t : Bool) (xs ys : List ℕ) (n : ℕ) → length xs ≡ n → length ys ≡ n → length (if t then xs else ys) ≡ n
 long true xs ys n a b = a
@@ -72,19 +64,21 @@ converted_long from to p n =
 -- what is converted has the channels of its format
 pub length_is : (n : ℕ) → n < 12 → (from : BufferFormat) (p : List ℕ)
     → length (converted from.format from.gamma (numbered n).format (numbered n).gamma p) ≡ channels (numbered n)
-length_is zero lt from p = converted_long from (numbered 0) p 4 refl refl
-length_is (suc zero) lt from p = converted_long from (numbered 1) p 4 refl refl
-length_is (suc (suc zero)) lt from p = converted_long from (numbered 2) p 4 refl refl
-length_is (suc (suc (suc zero))) lt from p = converted_long from (numbered 3) p 4 refl refl
-length_is (suc (suc (suc (suc zero)))) lt from p = converted_long from (numbered 4) p 4 refl refl
-length_is (suc (suc (suc (suc (suc zero))))) lt from p = converted_long from (numbered 5) p 4 refl refl
-length_is (suc (suc (suc (suc (suc (suc zero)))))) lt from p = converted_long from (numbered 6) p 3 refl refl
-length_is (suc (suc (suc (suc (suc (suc (suc zero))))))) lt from p = converted_long from (numbered 7) p 1 refl refl
-length_is (suc (suc (suc (suc (suc (suc (suc (suc zero)))))))) lt from p = converted_long from (numbered 8) p 4 refl refl
-length_is (suc (suc (suc (suc (suc (suc (suc (suc (suc zero))))))))) lt from p = converted_long from (numbered 9) p 4 refl refl
-length_is (suc (suc (suc (suc (suc (suc (suc (suc (suc (suc zero)))))))))) lt from p = converted_long from (numbered 10) p 3 refl refl
-length_is (suc (suc (suc (suc (suc (suc (suc (suc (suc (suc (suc zero))))))))))) lt from p = converted_long from (numbered 11) p 1 refl refl
-length_is (suc (suc (suc (suc (suc (suc (suc (suc (suc (suc (suc (suc k)))))))))))) lt from p = absurd (omega (arith, lt))
+length_is n lt from p =
+    each_of (λ n. length (converted from.format from.gamma (numbered n).format (numbered n).gamma p) ≡ channels (numbered n))
+    (converted_long from (numbered 0) p 4 refl refl)
+    (converted_long from (numbered 1) p 4 refl refl)
+    (converted_long from (numbered 2) p 4 refl refl)
+    (converted_long from (numbered 3) p 4 refl refl)
+    (converted_long from (numbered 4) p 4 refl refl)
+    (converted_long from (numbered 5) p 4 refl refl)
+    (converted_long from (numbered 6) p 3 refl refl)
+    (converted_long from (numbered 7) p 1 refl refl)
+    (converted_long from (numbered 8) p 4 refl refl)
+    (converted_long from (numbered 9) p 4 refl refl)
+    (converted_long from (numbered 10) p 3 refl refl)
+    (converted_long from (numbered 11) p 1 refl refl)
+    n lt
 
 -- all bytes of a pixel are its samples, and all its channels
 all_bytes : (n : ℕ) (bytes : List ℕ) → length bytes ≡ n → samples 255 n bytes ≡ bytes
@@ -140,27 +134,44 @@ made_all max n xs e =
     let none : n + 0 ≡ n = omega arith in
     ap (λ (k : ℕ). padded max k xs) none ∙ ap (λ (m : ℕ). padded m n xs) e
 
--- pixels of 8 bits that are converted by levels are converted
+-- a pixel of 8 bits that is written is its bytes
+written_is : (to : BufferFormat) (count index : ℕ) (dst : List ℕ) → to.format.layout.max ≡ 255 → length dst ≡ count * channels to → index < count
+    → read to.format.layout.max ((channels to + 0) * sample_size to.format.layout.max) (channels to + 0) dst index ≡ pixel_at (channels to) dst index
+written_is to count index dst max long lt =
+    let k = channels to in
+    read_all to.format.layout.max k dst index max ∙ all_bytes k (pixel_at k dst index) (range_long dst index k count lt (omega (arith, long)))
+
+-- what is made of a pixel of 8 bits is the pixel converted
+made_is : (from to : BufferFormat) (count index : ℕ) (src : List ℕ) → from.format.layout.max ≡ 255 → to.format.layout.max ≡ 255
+    → ((p : List ℕ) → length (converted from.format from.gamma to.format to.gamma p) ≡ channels to) → length src ≡ count * channels from → index < count
+    → padded to.format.layout.max (channels to + 0) (crossed from to (read from.format.layout.max ((channels from + 0) * sample_size from.format.layout.max) (channels from) src index))
+    ≡ converted from.format from.gamma to.format to.gamma (pixel_at (channels from) src index)
+made_is from to count index src max to_max size long lt =
+    let n = channels from in
+    let k = channels to in
+    let pixel = pixel_at n src index in
+    made_all to.format.layout.max k _ to_max
+    ∙ ap (λ (p : List ℕ). padded 255 k (crossed from to p)) (read_is from.format.layout.max n src index max ∙ all_bytes n pixel (range_long src index n count lt (omega (arith, long))))
+    ∙ ap (padded 255 k) (not_crossed (is_srgb from) (is_wide to) (is_wide from) (is_srgb to) _ _ _ (is_narrow to.format.layout.max to_max) (is_narrow from.format.layout.max max))
+    ∙ all_channels k _ (size pixel)
+
+-- pixels of 8 bits that are converted as those of a bitmap are converted
 pub converted_as : (from to : BufferFormat) (count whole : ℕ) (src dst : List ℕ) → from.format.layout.max ≡ 255 → to.format.layout.max ≡ 255
     → ((p : List ℕ) → length (converted from.format from.gamma to.format to.gamma p) ≡ channels to)
     → count ≤ whole → length src ≡ whole * channels from → length dst ≡ whole * channels to → IsConvertedBitmap (bare from) (bare to) count src dst → IsConverted from to count src dst
 converted_as from to count whole src dst max to_max size fits src_is dst_is each = record {
   each = λ index lt.
-      let n = channels from in
-      let k = channels to in
-      let in_src : whole * n ≤ length src = omega (arith, src_is) in
-      let in_dst : whole * k ≤ length dst = omega (arith, dst_is) in
       let here : index < whole = omega (arith, lt, fits) in
-      let pixel = slice_range src (index * n) (index * n + n) in
-      let made = slice_range dst (index * k) (index * k + k) in
-      let read_pixel : read from.format.layout.max ((n + 0) * sample_size from.format.layout.max) n src index ≡ pixel =
-      read_is from.format.layout.max n src index max ∙ all_bytes n pixel (range_long src index n whole here in_src) in
-      sym (read_all to.format.layout.max k dst index to_max ∙ all_bytes k made (range_long dst index k whole here in_dst))
-      ∙ each.each index lt
-      ∙ made_all to.format.layout.max k _ to_max
-      ∙ ap (λ (p : List ℕ). padded 255 k (crossed from to p)) read_pixel
-      ∙ ap (padded 255 k) (not_crossed (is_srgb from) (is_wide to) (is_wide from) (is_srgb to) _ _ _ (is_narrow to.format.layout.max to_max) (is_narrow from.format.layout.max max))
-      ∙ all_channels k _ (size pixel);
+      sym (written_is to whole index dst to_max dst_is here) ∙ each.each index lt ∙ made_is from to whole index src max to_max size src_is here;
+}
+
+-- .. and the other way round
+pub bitmap_as : (from to : BufferFormat) (count : ℕ) (src dst : List ℕ) → from.format.layout.max ≡ 255 → to.format.layout.max ≡ 255
+    → ((p : List ℕ) → length (converted from.format from.gamma to.format to.gamma p) ≡ channels to)
+    → length src ≡ count * channels from → length dst ≡ count * channels to → IsConverted from to count src dst → IsConvertedBitmap (bare from) (bare to) count src dst
+bitmap_as from to count src dst max to_max size src_is dst_is each = record {
+  each = λ index lt.
+      written_is to count index dst to_max dst_is lt ∙ each.each index lt ∙ sym (made_is from to count index src max to_max size src_is lt);
 }
 
 -- the pixels after those that were converted
@@ -205,35 +216,11 @@ converted_rest from to src dst part first count start end to_start wide before o
   ];
 }
 
-channels_is : (n : ℕ) → n < 12 → channels_of n ≡ channels (numbered n)
-channels_is zero lt = refl
-channels_is (suc zero) lt = refl
-channels_is (suc (suc zero)) lt = refl
-channels_is (suc (suc (suc zero))) lt = refl
-channels_is (suc (suc (suc (suc zero)))) lt = refl
-channels_is (suc (suc (suc (suc (suc zero))))) lt = refl
-channels_is (suc (suc (suc (suc (suc (suc zero)))))) lt = refl
-channels_is (suc (suc (suc (suc (suc (suc (suc zero))))))) lt = refl
-channels_is (suc (suc (suc (suc (suc (suc (suc (suc zero)))))))) lt = refl
-channels_is (suc (suc (suc (suc (suc (suc (suc (suc (suc zero))))))))) lt = refl
-channels_is (suc (suc (suc (suc (suc (suc (suc (suc (suc (suc zero)))))))))) lt = refl
-channels_is (suc (suc (suc (suc (suc (suc (suc (suc (suc (suc (suc zero))))))))))) lt = refl
-channels_is (suc (suc (suc (suc (suc (suc (suc (suc (suc (suc (suc (suc k)))))))))))) lt = absurd (omega (arith, lt))
+pub channels_is : (n : ℕ) → n < 12 → channels_of n ≡ channels (numbered n)
+channels_is = each_of (λ n. channels_of n ≡ channels (numbered n)) refl refl refl refl refl refl refl refl refl refl refl refl
 
 pub size_of : (n : ℕ) → n < 12 → channels_of n ≡ pixel_size (bare (numbered n))
-size_of zero lt = refl
-size_of (suc zero) lt = refl
-size_of (suc (suc zero)) lt = refl
-size_of (suc (suc (suc zero))) lt = refl
-size_of (suc (suc (suc (suc zero)))) lt = refl
-size_of (suc (suc (suc (suc (suc zero))))) lt = refl
-size_of (suc (suc (suc (suc (suc (suc zero)))))) lt = refl
-size_of (suc (suc (suc (suc (suc (suc (suc zero))))))) lt = refl
-size_of (suc (suc (suc (suc (suc (suc (suc (suc zero)))))))) lt = refl
-size_of (suc (suc (suc (suc (suc (suc (suc (suc (suc zero))))))))) lt = refl
-size_of (suc (suc (suc (suc (suc (suc (suc (suc (suc (suc zero)))))))))) lt = refl
-size_of (suc (suc (suc (suc (suc (suc (suc (suc (suc (suc (suc zero))))))))))) lt = refl
-size_of (suc (suc (suc (suc (suc (suc (suc (suc (suc (suc (suc (suc k)))))))))))) lt = absurd (omega (arith, lt))
+size_of = each_of (λ n. channels_of n ≡ pixel_size (bare (numbered n))) refl refl refl refl refl refl refl refl refl refl refl refl
 
 -- the format of a number, as it was found among those of bitmaps
 pub stored_as : (n : ℕ) (stored : FormatParts) → n < 12 → option_map stored_of (Some stored) ≡ slice_get stored_formats n → stored_of stored ≡ bare (numbered n)
@@ -255,3 +242,36 @@ ahead_as from to format target one other count whole src dst lt to_lt found to_f
     (src_is ∙ ap (λ (n : ℕ). whole * n) (channels_is from lt)) (dst_is ∙ ap (λ (n : ℕ). whole * n) (channels_is to to_lt)) crossed in
     subst (λ (b : BufferFormat). IsConverted b target count src dst) (numbered_is from format found lt)
     (subst (λ (b : BufferFormat). IsConverted (numbered from) b count src dst) (numbered_is to target to_found to_lt) base)
+
+-- the format of a number among those of bitmaps
+pub stored_named : (n : ℕ) (stored : FormatParts) → n < 12 → slice_get stored_formats n ≡ Some (stored_of stored) → stored_of stored ≡ bare (numbered n)
+stored_named n stored lt e = stored_as n stored lt (sym e)
+
+-- it has the channels of the format of buffers
+pub count_as : (n : ℕ) (stored : FormatParts) → n < 12 → stored_of stored ≡ bare (numbered n) → stored.count ≡ channels_of n
+count_as n stored lt is = ap (λ (s : StoredFormat). channels s.buffer) is ∙ sym (channels_is n lt)
+
+-- a number below twelve is that of a format of buffers
+pub format_named : (n : ℕ) → n < 12 → slice_get formats n ≡ Some (numbered n)
+format_named = each_of (λ n. slice_get formats n ≡ Some (numbered n)) refl refl refl refl refl refl refl refl refl refl refl refl
+
+-- the bytes of so many pixels, by the channels of one
+pub bytes_named : (n count : ℕ) (stored : FormatParts) (bytes : List ℕ) → n < 12 → stored_of stored ≡ bare (numbered n) → length bytes ≡ count * pixel_size (stored_of stored)
+    → length bytes ≡ count * stored.count
+bytes_named n count stored bytes lt is l =
+    l ∙ ap (λ (s : StoredFormat). count * pixel_size s) is ∙ ap (λ (k : ℕ). count * k) (sym (size_of n lt) ∙ sym (count_as n stored lt is))
+
+-- a row of two formats of buffers is one of a bitmap
+pub usual_as : (from to : ℕ) (one other : FormatParts) (count : ℕ) (src dst : List ℕ) → from < 12 → to < 12 → stored_of one ≡ bare (numbered from) → stored_of other ≡ bare (numbered to)
+    → length src ≡ count * pixel_size (stored_of one) → length dst ≡ count * pixel_size (stored_of other)
+    → ((format target : BufferFormat) → slice_get formats from ≡ Some format → slice_get formats to ≡ Some target → IsConverted format target count src dst)
+    → IsConvertedBitmap (stored_of one) (stored_of other) count src dst
+usual_as from to one other count src dst lt to_lt is to_is src_is dst_is each =
+    let long : length src ≡ count * channels (numbered from) = src_is ∙ ap (λ (s : StoredFormat). count * pixel_size s) is ∙ ap (λ (k : ℕ). count * k) (sym (size_of from lt) ∙ channels_is from lt) in
+    let to_long : length dst ≡ count * channels (numbered to) =
+    dst_is ∙ ap (λ (s : StoredFormat). count * pixel_size s) to_is ∙ ap (λ (k : ℕ). count * k) (sym (size_of to to_lt) ∙ channels_is to to_lt) in
+    let base : IsConvertedBitmap (bare (numbered from)) (bare (numbered to)) count src dst =
+    bitmap_as (numbered from) (numbered to) count src dst (max_is from lt) (max_is to to_lt) (λ p. length_is to to_lt (numbered from) p) long to_long
+    (each (numbered from) (numbered to) (format_named from lt) (format_named to to_lt)) in
+    subst (λ (s : StoredFormat). IsConvertedBitmap s (stored_of other) count src dst) (sym is)
+    (subst (λ (s : StoredFormat). IsConvertedBitmap (bare (numbered from)) s count src dst) (sym to_is) base)

@@ -7,7 +7,7 @@ use Rattle.pix_el.specs.Pixel.{channel}
 use Rattle.pix_el.specs.Conversion.{Format, at_depth}
 use Rattle.pix_bytes.specs.Bitmap.{IsConvertedBitmap, crossed, into_light}
 use Rattle.pix_bytes.specs.Lit.{multiplied_light}
-use Rattle.pix_bytes.specs.Rows.{IsEach, max_of, gamma_of, format_at, stored_of}
+use Rattle.pix_bytes.specs.Rows.{IsEach, IsRow, max_of, gamma_of, format_at, stored_of}
 use Rattle.pix_bytes.specs.BitmapFormats.{sample_size, samples, padded}
 use Rattle.pix_bytes.specs.declared.bitmap.format.Depth.{Depth}
 use Rattle.pix_bytes.specs.declared.bitmap.format.FormatParts.{FormatParts}
@@ -21,21 +21,15 @@ pub crossed_as : (from to : FormatParts) (depth to_depth : Depth) (count : ℕ) 
     → IsConvertedBitmap (stored_of from) (stored_of to) count src dst
 crossed_as from to depth to_depth count src dst is to_is each = record { each = λ index lt. rw (is, to_is) (each index lt) }
 
--- rows of pixels of two formats, as `convert_row_pixels` writes them
-abbrev pub AreCrossed : (max to_max : ℕ) → FormatParts → FormatParts → (Format → Format → List ℕ → List ℕ) → ℕ → List ℕ → List ℕ → Type 0
-AreCrossed max to_max from to makes count src dst =
-    IsEach max to_max from.count (to.count + to.spare) ((from.count + from.spare) * sample_size max) ((to.count + to.spare) * sample_size to_max)
-    (makes (format_at max from) (format_at to_max to)) src dst count
-
--- .. where the one is known by another name
+-- a row of pixels of two formats, where the one is known by another name
 pub crossed_from : (max to_max : ℕ) (known from to : FormatParts) (makes : Format → Format → List ℕ → List ℕ) (count : ℕ) (src dst : List ℕ) → known ≡ from
-    → AreCrossed max to_max known to makes count src dst → AreCrossed max to_max from to makes count src dst
-crossed_from max to_max known from to makes count src dst e h = subst (λ (s : FormatParts). AreCrossed max to_max s to makes count src dst) e h
+    → IsRow max to_max makes known to count src dst → IsRow max to_max makes from to count src dst
+crossed_from max to_max known from to makes count src dst e h = subst (λ (s : FormatParts). IsRow max to_max makes s to count src dst) e h
 
 -- .. or the other
 pub crossed_to : (max to_max : ℕ) (from known to : FormatParts) (makes : Format → Format → List ℕ → List ℕ) (count : ℕ) (src dst : List ℕ) → known ≡ to
-    → AreCrossed max to_max from known makes count src dst → AreCrossed max to_max from to makes count src dst
-crossed_to max to_max from known to makes count src dst e h = subst (λ (s : FormatParts). AreCrossed max to_max from s makes count src dst) e h
+    → IsRow max to_max makes from known count src dst → IsRow max to_max makes from to count src dst
+crossed_to max to_max from known to makes count src dst e h = subst (λ (s : FormatParts). IsRow max to_max makes from s count src dst) e h
 
 -- .. of which the one function makes what the other does
 pub each_same : (max to_max from_count all size to_size : ℕ) (f g : List ℕ → List ℕ) (src dst : List ℕ) (count : ℕ) → ((p : List ℕ) → f p ≡ g p)

@@ -5,7 +5,7 @@ use Rattle.pix_el.specs.Pixel.{channel}
 use Rattle.pix_el.specs.Model.{row}
 use Rattle.pix_el.specs.Conversion.{Format}
 use Rattle.pix_bytes.specs.Models.{model_of}
-use Rattle.pix_bytes.specs.BitmapFormats.{StoredFormat, format_with, stored_with, samples, padded}
+use Rattle.pix_bytes.specs.BitmapFormats.{StoredFormat, format_with, stored_with, sample_size, samples, padded}
 use Rattle.pix_bytes.specs.declared.bitmap.format.Depth.{Depth}
 use Rattle.pix_bytes.specs.declared.bitmap.format.Depth.TheVariants.{Srgb8, Linear8, Linear16}
 use Rattle.pix_bytes.specs.declared.bitmap.format.FormatParts.{FormatParts}
@@ -60,3 +60,10 @@ abbrev pub IsEach : (max to_max from_count all size to_size : ℕ) → (List ℕ
 IsEach max to_max from_count all size to_size f src dst count =
     (index : ℕ) → index < count → samples to_max all (slice_range dst (index * to_size) (index * to_size + to_size))
     ≡ padded to_max all (f (samples max from_count (slice_range src (index * size) (index * size + size))))
+
+-- so many pixels of a row are what `makes` makes, between both formats, of those of the source, with
+-- channels up to these maxima
+abbrev pub IsRow : (max to_max : ℕ) → (Format → Format → List ℕ → List ℕ) → FormatParts → FormatParts → (count : ℕ) → (src dst : List ℕ) → Type 0
+IsRow max to_max makes from to count src dst =
+    IsEach max to_max from.count (to.count + to.spare) ((from.count + from.spare) * sample_size max) ((to.count + to.spare) * sample_size to_max)
+    (makes (format_at max from) (format_at to_max to)) src dst count

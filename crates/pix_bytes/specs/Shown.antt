@@ -1,6 +1,6 @@
 -- Four pixels of light of three colors and an alpha as sRGB, by their bytes. No clause of a public
 -- call cites this file.
-use Rattle.std.specs.Prelude.{ℕ, ◌+◌, ◌*◌, ◌/◌, ◌%◌, List, [], ◌∷◌, ◌++◌, map, Bool, if◌then◌else◌}
+use Rattle.std.specs.Prelude.{ℕ, ◌+◌, ◌*◌, ◌/◌, List, [], ◌∷◌, ◌++◌, map, Bool, if◌then◌else◌}
 use Rattle.std.specs.Simd.Lanes.{zip2, pick_l}
 use Rattle.pix_chan.specs.Product.{channel_quotient}
 use Rattle.pix_chan.specs.LaneQuotients.{for_each_channel}

@@ -1,12 +1,13 @@
 //! Bitmaps: images of bytes in any format, whose rows lie a stride apart.
 ghost use Rattle.std.specs.Prelude.{◌≡◌, ◌≢◌, ◌*◌, length, Some, slice_get, true};
-ghost use Rattle.pix_bytes.specs.Bitmap.{IsBitmapOf, bitmap_status, is_held};
+ghost use Rattle.pix_bytes.specs.Bitmap.{IsBitmapOf, IsConvertedBitmap, bitmap_status, is_held};
 ghost use Rattle.pix_bytes.specs.Rows.{stored_of, is_sound};
 ghost use Rattle.pix_bytes.specs.BitmapFormats.{StoredFormat, pixel_size, pixel_size_of, stored_formats};
 
 use crate::bitmap::format::FormatParts;
 use crate::bitmap::row_conversion::convert_row;
 use crate::bitmap::rows::Lines;
+use crate::buffer::convert_usual;
 
 mod eights;
 pub(crate) mod format;
@@ -68,13 +69,18 @@ pub fn convert_bitmap(
         → slice_get stored_formats to ≡ Some target → result ≡ 0
         → IsBitmapOf format target width height src_stride dst_stride src.now dst.old dst.new }
 {
-    let (Some(from), Some(to)) = (FormatParts::from_number(from), FormatParts::from_number(to))
-    else {
+    let (Some(format), Some(target)) = (
+        FormatParts::from_number(from),
+        FormatParts::from_number(to),
+    ) else {
         return BAD_FORMAT;
     };
     let src_lines = Lines { stride: src_stride };
     let dst_lines = Lines { stride: dst_stride };
-    let (wide, to_wide) = (width as usize * from.size(), width as usize * to.size());
+    let (wide, to_wide) = (
+        width as usize * format.size(),
+        width as usize * target.size(),
+    );
     if !dst_lines.is_held(width, height, to_wide, dst.len()) {
         return BAD_SIZE;
     }
@@ -86,12 +92,18 @@ pub fn convert_bitmap(
         return DONE;
     }
     let (width, height) = (width as usize, height as usize);
-    convert_rows(from, to, src, dst, src_lines, dst_lines, width, height);
+    convert_rows(
+        from, to, format, target, src, dst, src_lines, dst_lines, width, height,
+    );
     DONE
 }
 
-/// Writes each row. Condition: both bitmaps are held in their bytes.
+/// Writes each row, where both formats are given by their numbers and their parts.
+///
+/// Condition: both bitmaps are held in their bytes.
 fn convert_rows(
+    number: u32,
+    to_number: u32,
     from: FormatParts,
     to: FormatParts,
     src: &[u8],
@@ -101,6 +113,8 @@ fn convert_rows(
     width: usize,
     height: usize,
 )
+    requires named { slice_get stored_formats number ≡ Some (stored_of from) }
+    requires to_named { slice_get stored_formats to_number ≡ Some (stored_of to) }
     requires sound { is_sound from ≡ true }
     requires to_sound { is_sound to ≡ true }
     requires src { is_held width height (width * pixel_size (stored_of from)) src_lines.stride
@@ -115,6 +129,41 @@ fn convert_rows(
         let start = src_lines.row_start(height, y);
         let row = &src[start..start + wide];
         let start = dst_lines.row_start(height, y);
-        convert_row(from, to, row, &mut dst[start..start + to_wide], width);
+        let to_row = &mut dst[start..start + to_wide];
+        convert_numbered(number, to_number, from, to, row, to_row, width);
     }
+}
+
+/// Writes each pixel of a row to the same index of `dst`, in the other format. Between the formats
+/// of buffers it goes by a loop of their own.
+///
+/// Condition: there are `count` in both.
+fn convert_numbered(
+    number: u32,
+    to_number: u32,
+    from: FormatParts,
+    to: FormatParts,
+    src: &[u8],
+    dst: &mut [u8],
+    count: usize,
+)
+    requires named { slice_get stored_formats number ≡ Some (stored_of from) }
+    requires to_named { slice_get stored_formats to_number ≡ Some (stored_of to) }
+    requires sound { is_sound from ≡ true }
+    requires to_sound { is_sound to ≡ true }
+    requires src { length src.now ≡ count * pixel_size (stored_of from) }
+    requires dst { length dst.old ≡ count * pixel_size (stored_of to) }
+    ensures { IsConvertedBitmap (stored_of from) (stored_of to) count src.now dst.new }
+{
+    // The steps are faster for premultiplied pixels and opaque or gray ones, which they know.
+    let are_faster = matches!((number, to_number), (3, 6) | (6 | 7, 1 | 3) | (2 | 4, 1));
+    if !are_faster {
+        if number < 12 {
+            if to_number < 12 {
+                convert_usual(number, to_number, from.count, to.count, src, dst, count);
+                return;
+            }
+        }
+    }
+    convert_row(from, to, src, dst, count);
 }

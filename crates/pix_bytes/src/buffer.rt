@@ -45,9 +45,33 @@ pub fn convert_buffer(from: u32, to: u32, src: &[u8], dst: &mut [u8], count: usi
     if !are_pixels(dst.len(), to_wide, count) {
         return BAD_LENGTH;
     }
+    convert_usual(from, to, wide, to_wide, src, dst, count);
+    DONE
+}
+
+/// Converts `count` pixels of the format of number `from`, of `wide` channels each, to pixels of
+/// the format of number `to`, of `to_wide` channels. Each pair of formats has a loop of its own.
+///
+/// Condition: there are `count` in both buffers.
+pub(crate) fn convert_usual(
+    from: u32,
+    to: u32,
+    wide: usize,
+    to_wide: usize,
+    src: &[u8],
+    dst: &mut [u8],
+    count: usize,
+)
+    requires wide { wide ≡ channels_of from }
+    requires to_wide { to_wide ≡ channels_of to }
+    requires src { length src.now ≡ count * wide }
+    requires dst { length dst.old ≡ count * to_wide }
+    ensures { (format target : BufferFormat) → slice_get formats from ≡ Some format
+        → slice_get formats to ≡ Some target
+        → IsConverted format target count src.now dst.new }
+{
     let first = convert_ahead(from, to, src, dst, count);
     convert_rest(from, to, wide, to_wide, src, dst, first, count);
-    DONE
 }
 
 /// Converts as many of the first `count` pixels as are converted several at once, and returns their

@@ -4,6 +4,7 @@ use Rattle.std.proofs.lemmas.Bool.{cases_lt}
 use Rattle.std.proofs.lemmas.Bool.Decides.{nat_tests}
 use Rattle.std.proofs.lemmas.List.{length-map, get_or-map, get_or_append_left, get_or_push}
 use Rattle.pix_table.specs.Nearest.{distance, alpha_of, AreMatched}
+use Rattle.pix_table.specs.ErrorBound.{IsErrorBound}
 use Rattle.pix_table.specs.LookUp.{all_below}
 use Rattle.pix_table.specs.Diffusion.{AreDiffusedBy, AreShownAround, IsDiffused, none, clear, in_picture, rgb_of}
 use Rattle.pix_table.specs.declared.diffuse.ScanOrder.{ScanOrder}
@@ -32,17 +33,17 @@ each_index entries alpha transparent_index pixels indices below matched k inside
 ]
 
 -- the first pixels of a scan, each of which has the transparent index
-pub record AreClear (scan : ScanOrder) (strength : ℕ) (entries : List (List ℕ)) (alpha transparent_index width : ℕ) (pixels : List (List ℕ)) (n : ℕ) : Type 0 where
+pub record AreClear (scan : ScanOrder) (bound strength : ℕ) (entries : List (List ℕ)) (alpha transparent_index width : ℕ) (pixels : List (List ℕ)) (n : ℕ) : Type 0 where
   pub wanted : List (List ℕ)
   pub found : List (List ℕ)
   pub along : List ℕ
-  pub diffused : IsDiffused rgb_of distance scan strength entries alpha transparent_index width pixels wanted found along
+  pub diffused : IsDiffused rgb_of distance scan bound strength entries alpha transparent_index width pixels wanted found along
   pub many : length along ≡ n
   pub each : (k : ℕ) → k < n → get_or along k 0 ≡ transparent_index
 
-module _ (scan : ScanOrder) (strength : ℕ) (entries : List (List ℕ)) (alpha transparent_index width : ℕ) (pixels : List (List ℕ)) where
+module _ (scan : ScanOrder) (bound strength : ℕ) (entries : List (List ℕ)) (alpha transparent_index width : ℕ) (pixels : List (List ℕ)) where
   abbrev Clear : ℕ → Type 0
-  Clear n = AreClear scan strength entries alpha transparent_index width pixels n
+  Clear n = AreClear scan bound strength entries alpha transparent_index width pixels n
 
   -- one pixel more
   one_more : (n : ℕ) → alpha_of (get_or pixels (in_picture scan width n) []) < alpha → Clear n → Clear (n + 1)
@@ -77,23 +78,35 @@ module _ (scan : ScanOrder) (strength : ℕ) (entries : List (List ℕ)) (alpha 
       each_alpha alpha pixels below (in_picture scan width n) (in_picture_below scan width (length pixels) n some less whole) in
       subst Clear (let e : n + 1 ≡ suc n = omega arith in e) (one_more n here (all_clear some whole below n (omega arith)))
 
-  -- pixels that are all transparent are diffused where each has the transparent index
-  pub transparent_diffused : (indices : List ℕ) → 0 < width → (scan ≡ Serpentine → length pixels % width ≡ 0) → all_below alpha (map alpha_of pixels) ≡ true
-      → AreMatched entries alpha transparent_index pixels indices → AreDiffusedBy scan strength entries alpha transparent_index width pixels indices
-  transparent_diffused indices some whole below matched =
-      let h : Clear (length pixels) = all_clear some whole below (length pixels) (omega arith) in
-      record {
-        wanted = h.wanted;
-        found = h.found;
-        along = h.along;
-        diffused = h.diffused;
-        whole = h.many;
-        many = matched.many;
-        each = λ k inside.
-            each_index entries alpha transparent_index pixels indices below matched (in_picture scan width k)
-            (in_picture_below scan width (length pixels) k some inside whole)
-            ∙ sym (h.each k inside);
-      }
+-- entries that there are none of have the least bound
+no_step : (entries : List (List ℕ)) → length entries ≡ 0 → IsErrorBound entries 24
+no_step entries empty = record {
+  least = omega arith;
+  wide = λ channel low high few step. absurd (omega (arith, step.low_is.1, empty));
+  reached = inl refl;
+}
+
+-- pixels that are all transparent are diffused to no entry where each has the transparent index
+pub transparent_diffused : (scan : ScanOrder) (strength : ℕ) (entries : List (List ℕ)) (alpha transparent_index width : ℕ) (pixels : List (List ℕ)) (indices : List ℕ) → length entries ≡ 0
+    → 0 < width → (scan ≡ Serpentine → length pixels % width ≡ 0) → all_below alpha (map alpha_of pixels) ≡ true
+    → AreMatched entries alpha transparent_index pixels indices → AreDiffusedBy scan strength entries alpha transparent_index width pixels indices
+transparent_diffused scan strength entries alpha transparent_index width pixels indices empty some whole below matched =
+    let h : AreClear scan 24 strength entries alpha transparent_index width pixels (length pixels) =
+    all_clear scan 24 strength entries alpha transparent_index width pixels some whole below (length pixels) (omega arith) in
+    record {
+      bound = 24;
+      is_bound = no_step entries empty;
+      wanted = h.wanted;
+      found = h.found;
+      along = h.along;
+      diffused = h.diffused;
+      whole = h.many;
+      many = matched.many;
+      each = λ k inside.
+          each_index entries alpha transparent_index pixels indices below matched (in_picture scan width k)
+          (in_picture_below scan width (length pixels) k some inside whole)
+          ∙ sym (h.each k inside);
+    }
 
 -- and each is shown as such
 pub transparent_shown : (entries : List (List ℕ)) (alpha transparent_index : ℕ) (pixels : List (List ℕ)) (indices : List ℕ) → all_below alpha (map alpha_of pixels) ≡ true

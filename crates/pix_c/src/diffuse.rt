@@ -20,8 +20,9 @@ const WHOLE: u8 = 16;
 /// Writes for each pixel, in rows of `width`, its index by error diffusion. The index is that of
 /// the entry that is nearest to the pixel plus its share of the errors before it. An error is what
 /// was wanted less the entry that was found. The pixel on the right gets 7 sixteenths of it, the
-/// one below on the left 3, the one below 5, and the one below on the right 1. It is held to
-/// 24 either way in each channel, so no color that is looked up is further from its pixel.
+/// one below on the left 3, the one below 5, and the one below on the right 1. It is held to a
+/// bound either way in each channel, so no color that is looked up is further from its pixel. The
+/// bound is half of the widest step between neighboring levels of the table, and at least 24.
 ///
 /// `strength` sixteenths of each error are handed on. Where `serpentine` is not 0, every second row
 /// goes from right to left, and the shares are mirrored in it.
@@ -155,9 +156,9 @@ fn diffuse_transparent(
     ensures status { result ≡ diffuse_by_alpha_status 0 how.alpha (map rgba_numbers pixels.now)
         how.width how.strength how.scan work (length indices.old) }
     ensures refused { result ≢ 0 → indices.new ≡ indices.old }
-    ensures done { result ≡ 0 → (entries : List (List ℕ)) → AreDiffusedBy how.scan how.strength
-        entries how.alpha how.transparent_index how.width (map rgba_numbers pixels.now)
-        indices.new }
+    ensures done { result ≡ 0 → (entries : List (List ℕ)) → length entries ≡ 0
+        → AreDiffusedBy how.scan how.strength entries how.alpha how.transparent_index how.width
+        (map rgba_numbers pixels.now) indices.new }
     ensures near { result ≡ 0 → (entries : List (List ℕ)) → AreShownAround entries how.alpha
         how.transparent_index (map rgba_numbers pixels.now) indices.new }
 {

@@ -110,8 +110,8 @@ pub extern "C" fn pix_raw_look_up_rgba(
 /// Writes for each pixel, in rows of `width`, its index by error diffusion, as
 /// [`pix_raw_diffuse_indexed_by`](crate::diffuse::pix_raw_diffuse_indexed_by) does: that of the
 /// entry which is seen nearest to the pixel plus its share of the errors before it. Errors are
-/// those of colors times their alphas, and of the alphas, held to 24 either way. A pixel of the
-/// alpha 0 has no share and hands on no error.
+/// those of colors times their alphas, and of the alphas, and so are the levels of the bound. A
+/// pixel of the alpha 0 has no share and hands on no error.
 ///
 /// The statuses are those of `pix_raw_diffuse_indexed_by`.
 #[unsafe(no_mangle)]

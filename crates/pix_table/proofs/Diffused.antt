@@ -168,9 +168,9 @@ near_more scan ws gs w g width first place near left right_above many_wanted man
       above = kept_above scan ws gs w g width first (place + 1) place _ _ right_above inside many_wanted many_found up (λ t. leb-true width first t) above;
     }
 
-pub none_done : (color : (ℕ → ℕ) → List ℕ) (apart : List ℕ → List ℕ → ℕ) (scan : ScanOrder) (strength : ℕ) (entries : List (List ℕ)) (alpha transparent_index width : ℕ) (pixels wanted found : List (List ℕ)) (near : NeighborErrors) (indices : List ℕ) → 0 < width
-    → AreDone color apart scan strength entries alpha transparent_index width pixels 0 wanted found near indices
-none_done color apart scan strength entries alpha transparent_index width pixels wanted found near indices some = record {
+pub none_done : (color : (ℕ → ℕ) → List ℕ) (apart : List ℕ → List ℕ → ℕ) (scan : ScanOrder) (bound strength : ℕ) (entries : List (List ℕ)) (alpha transparent_index width : ℕ) (pixels wanted found : List (List ℕ)) (near : NeighborErrors) (indices : List ℕ) → 0 < width
+    → AreDone color apart scan bound strength entries alpha transparent_index width pixels 0 wanted found near indices
+none_done color apart scan bound strength entries alpha transparent_index width pixels wanted found near indices some = record {
   all_wanted = [];
   all_found = [];
   along = [];
@@ -184,22 +184,22 @@ none_done color apart scan strength entries alpha transparent_index width pixels
   each = λ j before. absurd (omega arith);
 }
 
-module _ (color : (ℕ → ℕ) → List ℕ) (apart : List ℕ → List ℕ → ℕ) (scan : ScanOrder) (strength : ℕ) (entries : List (List ℕ)) (alpha transparent_index width : ℕ) (pixels : List (List ℕ)) (k : ℕ)
+module _ (color : (ℕ → ℕ) → List ℕ) (apart : List ℕ → List ℕ → ℕ) (scan : ScanOrder) (bound strength : ℕ) (entries : List (List ℕ)) (alpha transparent_index width : ℕ) (pixels : List (List ℕ)) (k : ℕ)
     (wanted found : List (List ℕ)) (near around : NeighborErrors) (indices : List ℕ) (right_above left : ColorError)
     (some : 0 < width) (inside : in_picture scan width k < length indices) (long_wanted : length wanted ≡ width) (long_found : length found ≡ width)
-    (h : AreDone color apart scan strength entries alpha transparent_index width pixels k wanted found near indices)
+    (h : AreDone color apart scan bound strength entries alpha transparent_index width pixels k wanted found near indices)
     (is_around : AreNeighborErrors scan h.all_wanted h.all_found width (k - k % width) (k % width) around)
     (is_above : IsColorErrorAbove scan h.all_wanted h.all_found width (k - k % width) (k % width) right_above) where
   -- with a color that is wanted, one that is found, and an index more; the rows are put in the order of
   -- the next pixel
   more : (w g : List ℕ) (i : ℕ) (next_wanted next_found : List (List ℕ))
-      → IsDiffused color apart scan strength entries alpha transparent_index width pixels (h.all_wanted ++ w ∷ []) (h.all_found ++ g ∷ []) (h.along ++ i ∷ [])
+      → IsDiffused color apart scan bound strength entries alpha transparent_index width pixels (h.all_wanted ++ w ∷ []) (h.all_found ++ g ∷ []) (h.along ++ i ∷ [])
       → IsColorError true w g left
       → ((ws : List (List ℕ)) → AreLatest scan ws width (k - k % width) (k % width + 1) (set wanted (k % width) w)
       → AreLatest scan ws width (k + 1 - (k + 1) % width) ((k + 1) % width) next_wanted)
       → ((gs : List (List ℕ)) → AreLatest scan gs width (k - k % width) (k % width + 1) (set found (k % width) g)
       → AreLatest scan gs width (k + 1 - (k + 1) % width) ((k + 1) % width) next_found)
-      → AreDone color apart scan strength entries alpha transparent_index width pixels (k + 1) next_wanted next_found
+      → AreDone color apart scan bound strength entries alpha transparent_index width pixels (k + 1) next_wanted next_found
       (record { left = left; left_above = around.above; above = right_above }) (set indices (in_picture scan width k) i)
   more w g i next_wanted next_found diffused missed turned_wanted turned_found =
       let here : k ≡ k - k % width + k % width = omega (arith, mod-le k width) in
@@ -242,7 +242,7 @@ module _ (color : (ℕ → ℕ) → List ℕ) (apart : List ℕ → List ℕ →
       → AreLatest scan ws width (k + 1 - (k + 1) % width) ((k + 1) % width) next_wanted)
       → ((gs : List (List ℕ)) → AreLatest scan gs width (k - k % width) (k % width + 1) (set found (k % width) (color (λ c. 0)))
       → AreLatest scan gs width (k + 1 - (k + 1) % width) ((k + 1) % width) next_found)
-      → AreDone color apart scan strength entries alpha transparent_index width pixels (k + 1) next_wanted next_found
+      → AreDone color apart scan bound strength entries alpha transparent_index width pixels (k + 1) next_wanted next_found
       (record { left = left; left_above = around.above; above = right_above }) (set indices (in_picture scan width k) transparent_index)
   clear_done next_wanted next_found missed below turned_wanted turned_found =
       more (color (λ c. 0)) (color (λ c. 0)) transparent_index next_wanted next_found
@@ -251,16 +251,16 @@ module _ (color : (ℕ → ℕ) → List ℕ) (apart : List ℕ → List ℕ →
 
   pub shown_done : (w g : List ℕ) (i : ℕ) (next_wanted next_found : List (List ℕ))
       → w ≡ wanted_at color scan strength width h.all_wanted h.all_found (k - k % width) (k % width) (get_or pixels (in_picture scan width k) [])
-      → alpha ≤ alpha_of (get_or pixels (in_picture scan width k) []) → IsNearestBy apart entries w i → g ≡ held_to w (get_or entries i []) → IsColorError true w g left
+      → alpha ≤ alpha_of (get_or pixels (in_picture scan width k) []) → IsNearestBy apart entries w i → g ≡ held_to bound w (get_or entries i []) → IsColorError true w g left
       → ((ws : List (List ℕ)) → AreLatest scan ws width (k - k % width) (k % width + 1) (set wanted (k % width) w)
       → AreLatest scan ws width (k + 1 - (k + 1) % width) ((k + 1) % width) next_wanted)
       → ((gs : List (List ℕ)) → AreLatest scan gs width (k - k % width) (k % width + 1) (set found (k % width) g)
       → AreLatest scan gs width (k + 1 - (k + 1) % width) ((k + 1) % width) next_found)
-      → AreDone color apart scan strength entries alpha transparent_index width pixels (k + 1) next_wanted next_found
+      → AreDone color apart scan bound strength entries alpha transparent_index width pixels (k + 1) next_wanted next_found
       (record { left = left; left_above = around.above; above = right_above }) (set indices (in_picture scan width k) i)
   shown_done w g i next_wanted next_found is above nearest entry missed turned_wanted turned_found =
       more w g i next_wanted next_found
-      (subst (λ f. IsDiffused color apart scan strength entries alpha transparent_index width pixels (h.all_wanted ++ w ∷ []) (h.all_found ++ f ∷ []) (h.along ++ i ∷ [])) (sym entry)
+      (subst (λ f. IsDiffused color apart scan bound strength entries alpha transparent_index width pixels (h.all_wanted ++ w ∷ []) (h.all_found ++ f ∷ []) (h.along ++ i ∷ [])) (sym entry)
       (shown h.all_wanted h.all_found h.along w i h.diffused
       (subst (λ n. alpha ≤ alpha_of (get_or pixels (in_picture scan width n) [])) (sym h.many) above)
       (subst (λ n. w ≡ wanted_at color scan strength width h.all_wanted h.all_found (n - n % width) (n % width) (get_or pixels (in_picture scan width n) [])) (sym h.many) is)
@@ -268,8 +268,8 @@ module _ (color : (ℕ → ℕ) → List ℕ) (apart : List ℕ → List ℕ →
       missed turned_wanted turned_found
 
 -- the same lists are done alike
-pub alike : (color : (ℕ → ℕ) → List ℕ) (apart : List ℕ → List ℕ → ℕ) (scan : ScanOrder) (strength : ℕ) (entries : List (List ℕ)) (alpha transparent_index width : ℕ) (pixels : List (List ℕ)) (k : ℕ)
+pub alike : (color : (ℕ → ℕ) → List ℕ) (apart : List ℕ → List ℕ → ℕ) (scan : ScanOrder) (bound strength : ℕ) (entries : List (List ℕ)) (alpha transparent_index width : ℕ) (pixels : List (List ℕ)) (k : ℕ)
     (ws gs : List (List ℕ)) (near : NeighborErrors) (is js : List ℕ) → js ≡ is
-    → AreDone color apart scan strength entries alpha transparent_index width pixels k ws gs near is → AreDone color apart scan strength entries alpha transparent_index width pixels k ws gs near js
-alike color apart scan strength entries alpha transparent_index width pixels k ws gs near is js e h =
-    subst (λ j. AreDone color apart scan strength entries alpha transparent_index width pixels k ws gs near j) (sym e) h
+    → AreDone color apart scan bound strength entries alpha transparent_index width pixels k ws gs near is → AreDone color apart scan bound strength entries alpha transparent_index width pixels k ws gs near js
+alike color apart scan bound strength entries alpha transparent_index width pixels k ws gs near is js e h =
+    subst (λ j. AreDone color apart scan bound strength entries alpha transparent_index width pixels k ws gs near j) (sym e) h

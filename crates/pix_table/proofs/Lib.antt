@@ -77,3 +77,4 @@ pub mod FewGroups
 pub mod BlockKeys
 pub mod GapLanes
 pub mod Singles
+pub mod ErrorBounds

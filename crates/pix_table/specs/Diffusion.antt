@@ -1,6 +1,7 @@
 -- Error diffusion by Floyd and Steinberg, in whole numbers, with errors that are bounded.
 use Rattle.std.specs.Prelude.{◌⊎◌, ◌≡◌, ℕ, ◌+◌, ◌-◌, ◌*◌, ◌/◌, ◌%◌, ◌<◌, ◌≤◌, max, min, List, [], ◌∷◌, ◌++◌, Bool, false, ◌&&◌, nat_lt, nat_le, length, slice_index, slice_index_or, if◌then◌else◌}
 use Rattle.pix_table.specs.Nearest.{IsNearestBy, distance, alpha_of}
+use Rattle.pix_table.specs.ErrorBound.{AreNear, IsErrorBound}
 use Rattle.pix_table.specs.declared.diffuse.ScanOrder.{ScanOrder}
 use Rattle.pix_table.specs.declared.diffuse.ScanOrder.TheVariants.{LeftToRight, Serpentine}
 
@@ -48,20 +49,15 @@ handed scan width colors first place channel =
 abbrev pub corrected : (strength number wanted found : ℕ) → ℕ
 corrected strength number wanted found = min 255 ((256 * number + 128 + strength * wanted - strength * found) / 256)
 
--- the greatest error that is handed on in a channel, of 255. So no color that is looked up is further from
--- its pixel: errors don't add up where no entry is like what is wanted. It is chosen by pictures
-abbrev pub error_bound : ℕ
-error_bound = 24
-
--- what counts as found in a channel: the entry's number, brought within the bound of what was wanted
-abbrev pub held : (wanted found : ℕ) → ℕ
-held wanted found = min (wanted + error_bound) (max (wanted - error_bound) found)
+-- what counts as found in a channel: the entry's number, brought within a bound of what was wanted
+abbrev pub held : (bound wanted found : ℕ) → ℕ
+held bound wanted found = min (wanted + bound) (max (wanted - bound) found)
 
 -- what counts as found where a color was wanted: the entry's color, held in each channel
-abbrev pub held_to : (wanted found : List ℕ) → List ℕ
-held_to [] found = []
-held_to (w ∷ wanted) [] = held w 0 ∷ held_to wanted []
-held_to (w ∷ wanted) (f ∷ found) = held w f ∷ held_to wanted found
+abbrev pub held_to : (bound : ℕ) (wanted found : List ℕ) → List ℕ
+held_to bound [] found = []
+held_to bound (w ∷ wanted) [] = held bound w 0 ∷ held_to bound wanted []
+held_to bound (w ∷ wanted) (f ∷ found) = held bound w f ∷ held_to bound wanted found
 
 -- the color of a number for each channel
 abbrev pub rgb_of : (ℕ → ℕ) → List ℕ
@@ -75,26 +71,28 @@ wanted_at color scan strength width wanted found first place pixel =
 -- the first pixels of a scan, one after the other: what is wanted at each, what is found for it, and
 -- its index. A pixel whose alpha is below one has the transparent index, and hands on no error: both
 -- colors are 0. Any other has the index of the entry that is nearest to what is wanted, and finds
--- that entry, held to the bound.
-pub data IsDiffused (color : (ℕ → ℕ) → List ℕ) (apart : List ℕ → List ℕ → ℕ) (scan : ScanOrder) (strength : ℕ) (entries : List (List ℕ)) (alpha transparent_index width : ℕ) (pixels : List (List ℕ)) : List (List ℕ) → List (List ℕ) → List ℕ → Type 0 where
-  none : IsDiffused color apart scan strength entries alpha transparent_index width pixels [] [] []
-  clear : (wanted found : List (List ℕ)) (indices : List ℕ) → IsDiffused color apart scan strength entries alpha transparent_index width pixels wanted found indices
+-- that entry, held to a bound.
+pub data IsDiffused (color : (ℕ → ℕ) → List ℕ) (apart : List ℕ → List ℕ → ℕ) (scan : ScanOrder) (bound strength : ℕ) (entries : List (List ℕ)) (alpha transparent_index width : ℕ) (pixels : List (List ℕ)) : List (List ℕ) → List (List ℕ) → List ℕ → Type 0 where
+  none : IsDiffused color apart scan bound strength entries alpha transparent_index width pixels [] [] []
+  clear : (wanted found : List (List ℕ)) (indices : List ℕ) → IsDiffused color apart scan bound strength entries alpha transparent_index width pixels wanted found indices
       → alpha_of (slice_index_or pixels (in_picture scan width (length indices)) []) < alpha
-      → IsDiffused color apart scan strength entries alpha transparent_index width pixels
+      → IsDiffused color apart scan bound strength entries alpha transparent_index width pixels
       (wanted ++ color (λ channel. 0) ∷ []) (found ++ color (λ channel. 0) ∷ []) (indices ++ transparent_index ∷ [])
-  shown : (wanted found : List (List ℕ)) (indices : List ℕ) (w : List ℕ) (i : ℕ) → IsDiffused color apart scan strength entries alpha transparent_index width pixels wanted found indices
+  shown : (wanted found : List (List ℕ)) (indices : List ℕ) (w : List ℕ) (i : ℕ) → IsDiffused color apart scan bound strength entries alpha transparent_index width pixels wanted found indices
       → alpha ≤ alpha_of (slice_index_or pixels (in_picture scan width (length indices)) [])
       → w ≡ wanted_at color scan strength width wanted found (length indices - length indices % width) (length indices % width)
       (slice_index_or pixels (in_picture scan width (length indices)) [])
       → IsNearestBy apart entries w i
-      → IsDiffused color apart scan strength entries alpha transparent_index width pixels (wanted ++ w ∷ []) (found ++ held_to w (slice_index_or entries i []) ∷ []) (indices ++ i ∷ [])
+      → IsDiffused color apart scan bound strength entries alpha transparent_index width pixels (wanted ++ w ∷ []) (found ++ held_to bound w (slice_index_or entries i []) ∷ []) (indices ++ i ∷ [])
 
--- the indices of all pixels of rows of a width: those of a scan of them
+-- the indices of all pixels of rows of a width: those of a scan of them, with the bound of the entries
 pub record IsDiffusedScan (color : (ℕ → ℕ) → List ℕ) (apart : List ℕ → List ℕ → ℕ) (scan : ScanOrder) (strength : ℕ) (entries : List (List ℕ)) (alpha transparent_index width : ℕ) (pixels : List (List ℕ)) (indices : List ℕ) : Type 0 where
+  pub bound : ℕ
+  pub is_bound : IsErrorBound entries bound
   pub wanted : List (List ℕ)
   pub found : List (List ℕ)
   pub along : List ℕ
-  pub diffused : IsDiffused color apart scan strength entries alpha transparent_index width pixels wanted found along
+  pub diffused : IsDiffused color apart scan bound strength entries alpha transparent_index width pixels wanted found along
   pub whole : length along ≡ length pixels
   pub many : length indices ≡ length pixels
   pub each : (k : ℕ) → k < length pixels → slice_index indices (in_picture scan width k) ≡ slice_index along k
@@ -107,20 +105,14 @@ AreDiffusedBy scan strength entries alpha transparent_index width pixels indices
 abbrev pub AreDiffused : (entries : List (List ℕ)) (alpha transparent_index width : ℕ) (pixels : List (List ℕ)) (indices : List ℕ) → Type 0
 AreDiffused entries alpha transparent_index width pixels indices = AreDiffusedBy LeftToRight 16 entries alpha transparent_index width pixels indices
 
--- two numbers differ by no more than the bound
-abbrev pub IsNear : (m n : ℕ) → Type 0
-IsNear m n = (m ≤ n + error_bound) × (n ≤ m + error_bound)
-
--- two colors do in each of their channels, of which there are so many
-abbrev pub AreNear : (channels : ℕ) → List ℕ → List ℕ → Type 0
-AreNear channels p q = (c : ℕ) → c < channels → IsNear (slice_index p c) (slice_index q c)
-
--- the entry i is the nearest to a color that differs from the pixel by no more than the bound in each
--- channel
+-- the entry i is the nearest to a color that differs from the pixel by no more than the bound of the
+-- entries in each channel
 pub record IsNearestAround (apart : List ℕ → List ℕ → ℕ) (channels : ℕ) (entries : List (List ℕ)) (pixel : List ℕ) (i : ℕ) : Type 0 where
+  pub bound : ℕ
+  pub is_bound : IsErrorBound entries bound
   pub looked_up : List ℕ
   pub nearest : IsNearestBy apart entries looked_up i
-  pub near : AreNear channels pixel looked_up
+  pub near : AreNear bound channels pixel looked_up
 
 -- the index of a pixel: the transparent one below an alpha, and else that of an entry nearest to a color
 -- around it

@@ -34,12 +34,12 @@ pub record AreNeighborErrors (scan : ScanOrder) (wanted found : List (List ℕ))
       (slice_index_or found (number_above scan width first place) []) near.above
 
 -- the first k pixels of a scan are diffused. The errors of neighbors are known within a row
-pub record AreDone (color : (ℕ → ℕ) → List ℕ) (apart : List ℕ → List ℕ → ℕ) (scan : ScanOrder) (strength : ℕ) (entries : List (List ℕ)) (alpha transparent_index width : ℕ) (pixels : List (List ℕ)) (k : ℕ)
+pub record AreDone (color : (ℕ → ℕ) → List ℕ) (apart : List ℕ → List ℕ → ℕ) (scan : ScanOrder) (bound strength : ℕ) (entries : List (List ℕ)) (alpha transparent_index width : ℕ) (pixels : List (List ℕ)) (k : ℕ)
     (wanted found : List (List ℕ)) (near : NeighborErrors) (indices : List ℕ) : Type 0 where
   pub all_wanted : List (List ℕ)
   pub all_found : List (List ℕ)
   pub along : List ℕ
-  pub diffused : IsDiffused color apart scan strength entries alpha transparent_index width pixels all_wanted all_found along
+  pub diffused : IsDiffused color apart scan bound strength entries alpha transparent_index width pixels all_wanted all_found along
   pub many : length along ≡ k
   pub many_wanted : length all_wanted ≡ k
   pub many_found : length all_found ≡ k

@@ -22,6 +22,7 @@ pub mod Refine
 pub mod Groups
 pub mod Items
 pub mod SeenItems
+pub mod ErrorBound
 pub mod Diffusion
 pub mod Done
 pub mod PaletteMatch

@@ -16,6 +16,7 @@ use crate::color::{Color, TableColor, TablePixel};
 use crate::diffused_color::{
     ColorError, DiffusedColor, FindsNearest, NO_ERROR, NeighborErrors, ShownAs,
 };
+use crate::error_bound::error_bound;
 use crate::matcher::visit_nearest;
 use crate::nearest_search::{NearestSearch, SearchVisitor};
 
@@ -60,8 +61,10 @@ pub fn diffuse_indexed_work(width: usize) -> Option<usize>
 /// the one below the pixel before it 3, the one below it 5, and the one below the next 1. Each gets
 /// `how.strength` sixteenths of its share.
 ///
-/// An error is held to 24 either way in each channel before it is handed on. So the color that is
-/// looked up for a pixel differs from it by at most 24 in each channel, whatever the picture is.
+/// An error is held to a bound either way in each channel before it is handed on. So the color that
+/// is looked up for a pixel differs from it by at most the bound in each channel, whatever the
+/// picture is. The bound is half of the widest step between neighboring levels of the entries in a
+/// channel, and at least 24.
 ///
 /// Condition: there is at least one entry and at most 256, a row has a pixel, at most 16 sixteenths
 /// are handed on, there are as many indices as pixels, and `work` has four rows of colors. Where
@@ -200,6 +203,7 @@ where
         how.transparent_index (map (λ pixel. S.given (P.values pixel)) pixels.now) indices.new }
 {
     let black = S::none();
+    let bound = error_bound::<S, C>(entries);
     let mut near = NeighborErrors {
         left: NO_ERROR,
         left_above: NO_ERROR,
@@ -220,7 +224,7 @@ where
         } else {
             let color = S::wanted(pixels[at], how, around, right_above);
             let index = search.find(color);
-            let entry = color.held(entries[usize::from(index)].shown());
+            let entry = color.held(bound, entries[usize::from(index)].shown());
             indices[at] = index;
             wanted[column] = color;
             found[column] = entry;

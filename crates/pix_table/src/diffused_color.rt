@@ -1,10 +1,8 @@
 //! Colors whose errors are handed on to the pixels around them.
-ghost use Rattle.std.specs.Prelude.{◌≡◌, ℕ, ◌+◌, ◌*◌, ◌≤◌, List, length, slice_index, true, refl};
+ghost use Rattle.std.specs.Prelude.{◌≡◌, ℕ, ◌+◌, ◌*◌, ◌<◌, ◌≤◌, List, length, slice_index, true, refl};
 ghost use Rattle.pix_table.specs.Nearest.{IsNearestBy, alpha_of, distance, numbers};
 ghost use Rattle.pix_table.specs.Diffusion.{
   corrected,
-  AreNear,
-  IsNear,
   held,
   held_to,
   rgb_of,
@@ -12,6 +10,7 @@ ghost use Rattle.pix_table.specs.Diffusion.{
   share_next,
   wanted_at,
 };
+ghost use Rattle.pix_table.specs.ErrorBound.{AreNear, IsNear};
 ghost use Rattle.pix_table.specs.NearLaws.{AreBytes, rgb_near};
 ghost use Rattle.pix_table.specs.Done.{AreNeighborErrors, IsColorError, IsColorErrorAbove};
 
@@ -80,9 +79,15 @@ pub(crate) trait DiffusedColor: Copy {
     fn none() -> Self
         ensures { spread result ≡ of_channels (λ channel. 0) };
 
-    /// Returns what counts as found where this color was wanted, for the color of an entry.
-    fn held(self, entry: Self) -> Self
-        ensures { spread result ≡ held_to (spread self) (spread entry) };
+    /// Returns the number of the color in one of its first four channels, 0 where it has none.
+    fn number(self, channel: usize) -> u8
+        requires { channel < 4 }
+        ensures { result ≡ slice_index (spread self) channel };
+
+    /// Returns what counts as found where this color was wanted, for the color of an entry and a
+    /// bound.
+    fn held(self, bound: u8, entry: Self) -> Self
+        ensures { spread result ≡ held_to bound (spread self) (spread entry) };
 
     /// Returns the error of a pixel at which this color was wanted and another was found.
     fn missed(self, found: Self) -> ColorError
@@ -105,9 +110,9 @@ pub(crate) trait DiffusedColor: Copy {
             (given (P.values pixel)) };
 
     /// A color whose numbers are near those of a pixel is near the pixel.
-    ghost stays_near: { (pixel : List ℕ) (number : ℕ → ℕ) → can_be_given pixel
-        → ((c : ℕ) → slice_index pixel c ≤ 255 → IsNear (slice_index pixel c) (number c))
-        → AreNear channels pixel (of_channels number) };
+    ghost stays_near: { (bound : ℕ) (pixel : List ℕ) (number : ℕ → ℕ) → can_be_given pixel
+        → ((c : ℕ) → slice_index pixel c ≤ 255 → IsNear bound (slice_index pixel c) (number c))
+        → AreNear bound channels pixel (of_channels number) };
 
     /// The color of a pixel has its alpha.
     ghost same_alpha: { (pixel : List ℕ) → alpha_of (given pixel) ≡ alpha_of pixel };
@@ -180,11 +185,21 @@ impl DiffusedColor for Color {
     }
 
     #[inline(always)]
-    fn held(self, entry: Color) -> Color {
+    fn number(self, channel: usize) -> u8 {
+        match channel {
+            0 => self.red,
+            1 => self.green,
+            2 => self.blue,
+            _ => 0,
+        }
+    }
+
+    #[inline(always)]
+    fn held(self, bound: u8, entry: Color) -> Color {
         Color {
-            red: held(self.red, entry.red),
-            green: held(self.green, entry.green),
-            blue: held(self.blue, entry.blue),
+            red: held(bound, self.red, entry.red),
+            green: held(bound, self.green, entry.green),
+            blue: held(bound, self.blue, entry.blue),
         }
     }
 
@@ -249,16 +264,14 @@ impl DiffusedColor for Color {
     ghost same_alpha = { λ pixel. refl };
 }
 
-/// The greatest error that is handed on in a channel.
-const ERROR_BOUND: u8 = 24;
-
-/// Returns what counts as found in a channel: an entry's number, held to what was wanted.
+/// Returns what counts as found in a channel: an entry's number, held within a bound of what was
+/// wanted.
 #[inline(always)]
-pub(crate) fn held(wanted: u8, found: u8) -> u8
-    ensures { result ≡ held wanted found }
+pub(crate) fn held(bound: u8, wanted: u8, found: u8) -> u8
+    ensures { result ≡ held bound wanted found }
 {
-    let least = wanted.saturating_sub(ERROR_BOUND);
-    let most = wanted.saturating_add(ERROR_BOUND);
+    let least = wanted.saturating_sub(bound);
+    let most = wanted.saturating_add(bound);
     found.max(least).min(most)
 }
 

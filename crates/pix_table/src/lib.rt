@@ -18,6 +18,7 @@ mod cutting;
 mod diffuse;
 mod diffused_color;
 mod entry_lanes;
+mod error_bound;
 mod exchange;
 mod few_sums;
 mod group;

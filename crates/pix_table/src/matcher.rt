@@ -18,10 +18,13 @@ use std::marker::Model;
 /// For more searches than this, entries that equal one before them are left out first.
 const FEW_SEARCHES: usize = 1024;
 
-/// Lists save more time than they take for more searches than this, divided by the number of blocks
-/// of lanes after the first. A block takes the same time in each search, and a list takes most of
-/// its time before it is searched.
-const BLOCK_SEARCHES: usize = 163840;
+/// Lists take more time than they save for no more searches than this, whatever the entries are,
+/// since a list takes most of its time before it is searched.
+const LIST_SEARCHES: usize = 6826;
+
+/// Lists save more time than they take for so many more searches than these, divided by the number
+/// of blocks of lanes after the first. A block takes the same time in each search.
+const BLOCK_SEARCHES: usize = 61440;
 
 /// Fewer pixels than this have few places for colors whose index was found, since it takes time to
 /// clear places.
@@ -120,7 +123,7 @@ fn lists_pay(searches: usize, entries: usize) -> bool
     requires { 0 < entries }
 {
     let more_blocks = (entries - 1) / SIZE;
-    more_blocks > 0 && searches > BLOCK_SEARCHES / more_blocks
+    more_blocks > 0 && searches > LIST_SEARCHES + BLOCK_SEARCHES / more_blocks
 }
 
 /// Runs an action on some items that asks for the nearest entries of a table, about `searches`

@@ -141,10 +141,11 @@ impl<'a> ColorTable<'a> {
 
     /// Sets the index of each pixel of rows of `width` by error diffusion, to the entry nearest to its target. The target is,
     /// in each channel, the pixel's number plus its shares of earlier errors. It is rounded to the nearest, a half up, and
-    /// clamped to 0..255. An error is the target less the chosen entry, and at most 24 either way. 12/16 of it are passed on
-    /// ([`Diffusion`]). Of these, 7/16 go to the pixel on the right, 3/16 to the one below on the left, 5/16 to the one below,
-    /// and 1/16 to the one below on the right. Shares past the sides of a row are lost. Every second row goes from right to
-    /// left, with left and right exchanged. `work` has exactly [`diffuse_indexed_work`] colors.
+    /// clamped to 0..255. An error is the target less the chosen entry, within a bound either way: half of the widest step
+    /// between neighboring levels of the table in a channel, and at least 24. 12/16 of it are passed on ([`Diffusion`]). Of
+    /// these, 7/16 go to the pixel on the right, 3/16 to the one below on the left, 5/16 to the one below, and 1/16 to the one
+    /// below on the right. Shares past the sides of a row are lost. Every second row goes from right to left, with left and
+    /// right exchanged. `work` has exactly [`diffuse_indexed_work`] colors.
     ///
     /// ```
     /// use pix::{ColorTable, Srgb8, diffuse_indexed_work};

@@ -2,7 +2,7 @@
 //! time.
 ghost use Rattle.std.specs.Prelude.{◌≡◌, ◌≤◌, ◌+◌, ◌*◌, length, true};
 ghost use Rattle.pix_bytes.specs.Bitmap.{IsConvertedBitmap};
-ghost use Rattle.pix_bytes.specs.Rows.{IsEach, format_at, stored_of, is_sound};
+ghost use Rattle.pix_bytes.specs.Rows.{IsEach, IsRow, format_at, stored_of, is_sound};
 ghost use Rattle.pix_bytes.specs.declared.bitmap.format.Depth.{Depth};
 ghost use Rattle.pix_bytes.specs.BitmapFormats.{sample_size, pixel_size};
 
@@ -31,9 +31,7 @@ fn convert_row_pixels<C: Sample, D: Sample, W: PixelConversion<C, D>>(
     requires to_sound { is_sound to ≡ true }
     requires src { length src.now ≡ count * ((from.count + from.spare) * sample_size C.max) }
     requires dst { length dst.old ≡ count * ((to.count + to.spare) * sample_size D.max) }
-    ensures { IsEach C.max D.max from.count (to.count + to.spare)
-        ((from.count + from.spare) * sample_size C.max) ((to.count + to.spare) * sample_size D.max)
-        (W.makes (format_at C.max from) (format_at D.max to)) src.now dst.new count }
+    ensures { IsRow C.max D.max W.makes from to count src.now dst.new }
 {
     let size = (from.count + from.spare) * C::size();
     let to_size = (to.count + to.spare) * D::size();
@@ -96,9 +94,7 @@ fn convert_known<C: Sample, D: Sample, W: PixelConversion<C, D>>(
     requires to_sound { is_sound to ≡ true }
     requires src { length src.now ≡ count * ((from.count + from.spare) * sample_size C.max) }
     requires dst { length dst.old ≡ count * ((to.count + to.spare) * sample_size D.max) }
-    ensures { IsEach C.max D.max from.count (to.count + to.spare)
-        ((from.count + from.spare) * sample_size C.max) ((to.count + to.spare) * sample_size D.max)
-        (W.makes (format_at C.max from) (format_at D.max to)) src.now dst.new count }
+    ensures { IsRow C.max D.max W.makes from to count src.now dst.new }
 {
     convert_row_pixels(conversion, known, to_known, src, dst, count);
 }
@@ -120,9 +116,7 @@ fn convert_from_usual<C: Sample, D: Sample, W: PixelConversion<C, D>>(
     requires to_sound { is_sound to ≡ true }
     requires src { length src.now ≡ count * ((from.count + from.spare) * sample_size C.max) }
     requires dst { length dst.old ≡ count * ((to.count + to.spare) * sample_size D.max) }
-    ensures { IsEach C.max D.max from.count (to.count + to.spare)
-        ((from.count + from.spare) * sample_size C.max) ((to.count + to.spare) * sample_size D.max)
-        (W.makes (format_at C.max from) (format_at D.max to)) src.now dst.new count }
+    ensures { IsRow C.max D.max W.makes from to count src.now dst.new }
 {
     if let Some(known) = from.known(Rgb, 4, false, 0) {
         convert_known(conversion, known, to_known, from, to, src, dst, count);
@@ -162,9 +156,7 @@ fn convert_to_usual<C: Sample, D: Sample, W: PixelConversion<C, D>>(
     requires to_sound { is_sound to ≡ true }
     requires src { length src.now ≡ count * ((from.count + from.spare) * sample_size C.max) }
     requires dst { length dst.old ≡ count * ((to.count + to.spare) * sample_size D.max) }
-    ensures { IsEach C.max D.max from.count (to.count + to.spare)
-        ((from.count + from.spare) * sample_size C.max) ((to.count + to.spare) * sample_size D.max)
-        (W.makes (format_at C.max from) (format_at D.max to)) src.now dst.new count }
+    ensures { IsRow C.max D.max W.makes from to count src.now dst.new }
 {
     if let Some(known) = to.known(Rgb, 4, false, 0) {
         convert_known(conversion, from_known, known, from, to, src, dst, count);
@@ -202,9 +194,7 @@ fn convert_painted<C: Sample, D: Sample, W: PixelConversion<C, D>>(
     requires to_sound { is_sound to ≡ true }
     requires src { length src.now ≡ count * ((from.count + from.spare) * sample_size C.max) }
     requires dst { length dst.old ≡ count * ((to.count + to.spare) * sample_size D.max) }
-    ensures { IsEach C.max D.max from.count (to.count + to.spare)
-        ((from.count + from.spare) * sample_size C.max) ((to.count + to.spare) * sample_size D.max)
-        (W.makes (format_at C.max from) (format_at D.max to)) src.now dst.new count }
+    ensures { IsRow C.max D.max W.makes from to count src.now dst.new }
 {
     if let Some(known) = to.known(Rgb, 4, true, 0) {
         convert_from_usual(conversion, from, known, to, src, dst, count);

@@ -169,8 +169,9 @@ impl ColorTable {
     ///
     /// The error of a pixel is what was wanted there less the entry that was found. The pixel on
     /// the right gets 7 sixteenths of it, the one below on the left 3, the one below 5, and the one
-    /// below on the right 1. It is held to 24 either way in each channel, so the color that is
-    /// looked up for a pixel differs from it by at most 24 in each channel.
+    /// below on the right 1. It is held to a bound either way in each channel, so the color
+    /// that is looked up for a pixel differs from it by no more. The bound is half of the widest
+    /// step between neighboring levels of the table in a channel, and at least 24.
     ///
     /// # Errors
     ///
@@ -433,6 +434,10 @@ fn diffused(
     }
     let mut indices = copies(alloc, 0, pixels.len())?;
     if pixels.is_empty() {
+        // Rows of one pixel serve too, and their work memory is on the stack.
+        let rows = Diffusion { width: 1, ..how };
+        let mut work = [Color::default(); 4];
+        diffuse_indexed(colors, pixels, rows, &mut work, &mut indices);
         return Ok(Some(indices));
     }
     let mut work = vec![in alloc; Color::default(); 4 * how.width]?;

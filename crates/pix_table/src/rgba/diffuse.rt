@@ -30,9 +30,10 @@ pub struct RgbaDiffusion {
 /// colors with an alpha. The index is that of the entry that is seen nearest to the pixel plus its
 /// share of the errors of the pixels before it.
 ///
-/// Errors are handed on in red, green and blue over black, and in the alpha, each held to 24 either
-/// way. What is wanted at a pixel is above its alpha in no channel. A pixel with the alpha 0 takes
-/// no share: it gets the entry that is seen nearest to it, and hands on no error.
+/// Errors are handed on in red, green and blue over black, and in the alpha, each held to the bound
+/// of what the entries are seen as. What is wanted at a pixel is above its alpha in no channel. A
+/// pixel with the alpha 0 takes no share: it gets the entry that is seen nearest to it, and hands
+/// on no error.
 ///
 /// Condition: there is at least one entry and at most 256, a row has a pixel, at most 16 sixteenths
 /// are handed on, there are as many indices as pixels, and `work` has four rows of colors. Where
@@ -124,12 +125,22 @@ impl DiffusedColor for Seen {
     }
 
     #[inline(always)]
-    fn held(self, entry: Seen) -> Seen {
+    fn number(self, channel: usize) -> u8 {
+        match channel {
+            0 => self.red,
+            1 => self.green,
+            2 => self.blue,
+            _ => self.alpha,
+        }
+    }
+
+    #[inline(always)]
+    fn held(self, bound: u8, entry: Seen) -> Seen {
         Seen {
-            red: held(self.red, entry.red),
-            green: held(self.green, entry.green),
-            blue: held(self.blue, entry.blue),
-            alpha: held(self.alpha, entry.alpha),
+            red: held(bound, self.red, entry.red),
+            green: held(bound, self.green, entry.green),
+            blue: held(bound, self.blue, entry.blue),
+            alpha: held(bound, self.alpha, entry.alpha),
         }
     }
 

@@ -11,7 +11,7 @@ use crate::lanes::{least_key, sums};
 use crate::rgba::views::{SeenBlock, Views};
 use std::simd::prelude::*;
 
-/// The least and the greatest numbers of each of sixteen blocks.
+/// The minimum and the maximum of the numbers of each of sixteen blocks.
 #[derive(Clone, Copy)]
 pub(crate) struct BlockEnds {
     pub(crate) least: SeenBlock,
@@ -69,7 +69,7 @@ impl BlockEnds {
     }
 }
 
-/// Returns the least and the greatest numbers of each of sixteen blocks.
+/// Returns the minimum and the maximum of the numbers of each of sixteen blocks.
 fn color_ends(blocks: &[ColorBlock]) -> (ColorBlock, ColorBlock)
     requires { length blocks.now ≡ 16 }
     ensures { AreColorEnds blocks.now result.0 result.1 }

@@ -52,7 +52,8 @@ pub(crate) fn make_opaque(colors: &[Seen], items: Items, entries: &mut [Seen])
     }
 }
 
-/// Does the same. Each entry has counts, in which anything may stand.
+/// Makes entries opaque by the counts of their colors. Each entry has a place in `shares`, which
+/// may hold anything before.
 fn opaque_round(colors: &[Seen], items: Items, shares: &mut [Share], entries: &mut [Seen])
     requires some { 0 < length entries.old }
     requires few { length entries.old ≤ 256 }

@@ -15,7 +15,7 @@ use Rattle.pix_table.proofs.diffuse.diffuse_all.Goals.{then-clear, else-clear}
 
 pub loop-k-init : goal.loop-k-init
 loop-k-init g c = record {
-  done = none_done _ _ _ _ _ _ _ _ _ _ _ _ _ c.requires.row;
+  done = none_done _ _ _ _ _ _ _ _ _ _ _ _ _ _ c.requires.row;
   can = λ j before above. absurd (omega (arith, before));
   same = c.requires.entries;
   column = sym (zero-mod c.args.how.width);
@@ -110,9 +110,9 @@ loop-k-preserved g c =
       | then-clear w ↦
           let below : alpha_of (g.S.DiffusedColor.given (g.P.TablePixel.values c.index-pixels-at.result)) < c.args.how.alpha = omega (arith, alpha, w.if-clear.true) in
           record {
-            done = alike _ _ _ _ _ _ _ _ _ _ _ _ _ _ _
+            done = alike _ _ _ _ _ _ _ _ _ _ _ _ _ _ _ _
                 (w.indices-is ∙ ap (λ n. set c.loop-k.indices n c.args.how.transparent_index) c.place_of-at.ensures)
-                (clear_done _ _ _ _ _ _ _ _ _ _ _ _ _ _ _ _ _ c.requires.row inside long_wanted long_found done around above_right _ _
+                (clear_done _ _ _ _ _ _ _ _ _ _ _ _ _ _ _ _ _ _ c.requires.row inside long_wanted long_found done around above_right _ _
                 (subst (λ m. IsColorError true (g.S.DiffusedColor.of_channels (λ c. 0)) (g.S.DiffusedColor.of_channels (λ c. 0)) m) (sym w.left-is) (no_miss (g.S.DiffusedColor.of_channels (λ c. 0))))
                 (subst (λ v. alpha_of v < c.args.how.alpha) pixel below)
                 (turned_as f scan width k _ _ c.loop-k.wanted _ _ _ _ w.wanted-is place c.none-black.ensures next c.turned-back.ensures.wanted)
@@ -146,12 +146,12 @@ loop-k-preserved g c =
           w.shown.ensures ∙ ap g.C.ShownAs.shown w.index-entries-from.is ∙ ap (λ j. g.C.ShownAs.shown (get_or c.args.entries.now j e)) w.from.ensures
           ∙ sym (get_or-map g.C.ShownAs.shown c.args.entries.now w.find-index.result e [] stands) in
           record {
-            done = alike _ _ _ _ _ _ _ _ _ _ _ _ _ _ _
+            done = alike _ _ _ _ _ _ _ _ _ _ _ _ _ _ _ _
                 (w.indices-is ∙ ap (λ n. set c.loop-k.indices n i) c.place_of-at.ensures)
-                (shown_done _ _ _ _ _ _ _ _ _ _ _ _ _ _ _ _ _ c.requires.row inside long_wanted long_found done around above_right _ _ _ _ _
+                (shown_done _ _ _ _ _ _ _ _ _ _ _ _ _ _ _ _ _ _ c.requires.row inside long_wanted long_found done around above_right _ _ _ _ _
                 (w.wanted-color.ensures.wanted width done.all_wanted done.all_found (k - k % width) (k % width) around above_right
                 ∙ ap (wanted_at g.S.DiffusedColor.of_channels scan c.args.how.strength width done.all_wanted done.all_found (k - k % width) (k % width)) again)
-                (subst (λ v. c.args.how.alpha ≤ alpha_of v) pixel above) nearest (w.held-entry.ensures ∙ ap (held_to (f w.wanted-color.result)) entry)
+                (subst (λ v. c.args.how.alpha ≤ alpha_of v) pixel above) nearest (w.held-entry.ensures ∙ ap (held_to c.error_bound-bound.result (f w.wanted-color.result)) entry)
                 (subst (λ m. IsColorError true (f w.wanted-color.result) (f w.held-entry.result) m) (sym w.left-is) w.missed-left.ensures)
                 (turned_as f scan width k _ _ c.loop-k.wanted _ _ _ _ w.wanted-is place refl next c.turned-back.ensures.wanted)
                 (turned_as f scan width k _ _ c.loop-k.found _ _ _ _ w.found-is place refl next c.turned-back.ensures.found));
@@ -168,10 +168,27 @@ loop-k-preserved g c =
           }
     ]
 
+pub returns-clause-diffused : goal.returns-clause-diffused
+returns-clause-diffused g c =
+    let done = c.loop-k.invariant.done in
+    let many : c.loop-k.k ≡ length (map (λ pixel. g.S.DiffusedColor.given (g.P.TablePixel.values pixel)) c.args.pixels.now) =
+    omega (arith, length-map c.args.pixels.now (λ pixel. g.S.DiffusedColor.given (g.P.TablePixel.values pixel))) in
+    record {
+      bound = c.error_bound-bound.result;
+      is_bound = c.error_bound-bound.ensures;
+      wanted = done.all_wanted;
+      found = done.all_found;
+      along = done.along;
+      diffused = done.diffused;
+      whole = done.many ∙ many;
+      many = omega (arith, many, c.loop-k.auto.indices, c.requires.many);
+      each = λ j b. done.each j (omega (arith, b, many));
+    }
+
 pub returns-clause-near : goal.returns-clause-near
 returns-clause-near g c =
     let many = length-map c.args.pixels.now (λ pixel. g.S.DiffusedColor.given (g.P.TablePixel.values pixel)) in
-    everywhere g.S.DiffusedColor.of_channels g.S.DiffusedColor.apart c.args.how.scan c.args.how.strength (map g.C.ShownAs.shown c.args.entries.now) c.args.how.alpha
+    everywhere g.S.DiffusedColor.of_channels g.S.DiffusedColor.apart c.args.how.scan c.error_bound-bound.result c.args.how.strength (map g.C.ShownAs.shown c.args.entries.now) c.args.how.alpha
     c.args.how.transparent_index c.args.how.width (map (λ pixel. g.S.DiffusedColor.given (g.P.TablePixel.values pixel)) c.args.pixels.now)
-    g.S.DiffusedColor.channels g.S.DiffusedColor.can_be_given c.requires.strength g.met.S.DiffusedColor.stays_near
+    g.S.DiffusedColor.channels g.S.DiffusedColor.can_be_given c.requires.strength c.error_bound-bound.ensures (g.met.S.DiffusedColor.stays_near c.error_bound-bound.result)
     c.loop-k.k _ _ _ _ c.requires.row (λ s. ap (λ n. n % c.args.how.width) many ∙ c.requires.whole s) (omega (arith, many)) c.loop-k.invariant.done c.loop-k.invariant.can

@@ -8,7 +8,7 @@ use Rattle.pix_table.proofs.diffuse.diffuse_all.Given as goal
 -- the first k pixels of the scan are diffused
 abbrev pub invariant-loop-k : goal.invariant-loop-k
 invariant-loop-k g l = record {
-  done : AreDone g.S.DiffusedColor.of_channels g.S.DiffusedColor.apart l.how.scan l.how.strength (map g.C.ShownAs.shown l.entries) l.how.alpha l.how.transparent_index l.how.width
+  done : AreDone g.S.DiffusedColor.of_channels g.S.DiffusedColor.apart l.how.scan l.bound l.how.strength (map g.C.ShownAs.shown l.entries) l.how.alpha l.how.transparent_index l.how.width
       (map (λ pixel. g.S.DiffusedColor.given (g.P.TablePixel.values pixel)) l.pixels) l.k (map g.S.DiffusedColor.spread l.wanted) (map g.S.DiffusedColor.spread l.found) l.near l.indices;
   can : (j : ℕ) → j < l.k → l.how.alpha ≤ alpha_of (get_or (map (λ pixel. g.S.DiffusedColor.given (g.P.TablePixel.values pixel)) l.pixels) (in_picture l.how.scan l.how.width j) [])
       → g.S.DiffusedColor.can_be_given (get_or (map (λ pixel. g.S.DiffusedColor.given (g.P.TablePixel.values pixel)) l.pixels) (in_picture l.how.scan l.how.width j) []);

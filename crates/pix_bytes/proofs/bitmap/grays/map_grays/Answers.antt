@@ -1,5 +1,5 @@
 -- Of `map_grays`: that the invariant of its loop over `i` holds after each turn.
-use Rattle.std.proofs.Common.{◌≡◌, ◌≤◌, ◌+◌, ◌*◌, ◌-◌, ℕ, length, arith}
+use Rattle.std.proofs.Common.{◌≡◌, ◌≤◌, ◌+◌, ◌*◌, ◌-◌, length, arith}
 use Rattle.pix_bytes.specs.Recolored.{gray_recolored}
 use Rattle.pix_bytes.proofs.Parts.{each_more}
 use Rattle.pix_bytes.proofs.RecoloredRows.{gray_is}

@@ -1,4 +1,4 @@
-use Rattle.std.proofs.Common.{◌≡◌, ◌≤◌, ◌+◌, ℕ, List, length, refl, arith}
+use Rattle.std.proofs.Common.{ℕ, List, refl, arith}
 use borrow.Rule.Slice.PartMut.{put_mid}
 use Rattle.pix_bytes.specs.Rows.{IsEach}
 use Rattle.pix_bytes.specs.Shown.{shown}

@@ -1,4 +1,4 @@
-use Rattle.std.proofs.Common.{◌≡◌, ◌<◌, ℕ, get_or, Some, true, refl, arith}
+use Rattle.std.proofs.Common.{◌≡◌, ◌<◌, ℕ, get_or, true, refl, arith}
 use Rattle.pix_bytes.specs.Recolored.{gray_recolored}
 use Rattle.pix_bytes.proofs.RecoloredRows.{each_of_one}
 use Rattle.pix_bytes.proofs.bitmap.recoloring.map_grays_ahead.Goals as goal

@@ -2,7 +2,6 @@
 use Rattle.std.proofs.Common.{◌≡◌, ℕ, List, [], ◌∷◌, ◌++◌, length, map, take, drop, refl, ap, ◌∙◌, arith, rules}
 use Rattle.std.proofs.lemmas.List.{length-map, take-append-le}
 use Rattle.std.proofs.Math.Seq.{take-length}
-use Rattle.pix_table.specs.Seen.{seen}
 use Rattle.pix_table.specs.Diffusion.{none}
 use Rattle.pix_table.specs.SeenDiffusion.{AreSeenDiffused}
 use Rattle.pix_table.specs.SrgbColor.{srgba_numbers}
@@ -16,7 +15,7 @@ no_pixels scan strength w width entries [] (i ∷ indices) e h = let many : leng
 no_pixels scan strength w width entries [] [] e h = record {
   clear = h.clear;
   nearest = h.nearest;
-  diffused = record { wanted = []; found = []; along = []; diffused = none; whole = refl; many = refl; each = λ k less. absurd (omega arith) };
+  diffused = record { bound = h.diffused.bound; is_bound = h.diffused.is_bound; wanted = []; found = []; along = []; diffused = none; whole = refl; many = refl; each = λ k less. absurd (omega arith) };
 }
 
 refilled : (n : ℕ) (xs ws : List ℕ) → n ≡ length ws → take n (ws ++ drop (length ws) xs) ≡ ws

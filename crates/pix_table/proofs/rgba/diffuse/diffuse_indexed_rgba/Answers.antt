@@ -2,6 +2,7 @@
 use Rattle.std.proofs.Common.{◌≡◌, ℕ, List, map, sym, subst}
 use Rattle.std.proofs.lemmas.Simd.{map-map}
 use Rattle.pix_table.specs.Nearest.{IsNearestBy}
+use Rattle.pix_table.specs.ErrorBound.{IsErrorBound}
 use Rattle.pix_table.specs.Diffusion.{IsDiffusedScan, AreShownAroundBy}
 use Rattle.pix_table.specs.Seen.{seen, seen_distance}
 use Rattle.pix_table.specs.SeenDiffusion.{seen_of_channels}
@@ -28,7 +29,9 @@ returns-clause-near g c =
     let entries : List (List ℕ) = map seen (map g.E.TablePixel.values c.args.entries.now) in
     let pixels : map seen (map g.P.TablePixel.values c.args.pixels.now) ≡ map (λ pixel. seen (g.P.TablePixel.values pixel)) c.args.pixels.now =
     map-map seen g.P.TablePixel.values c.args.pixels.now in
-    seen_around entries (map g.P.TablePixel.values c.args.pixels.now) c.nearest.result c.diffuse_all.new.indices
+    let scan = c.diffuse_all.ensures.diffused in
+    seen_around entries (map g.P.TablePixel.values c.args.pixels.now) scan.bound c.nearest.result c.diffuse_all.new.indices
+    (subst (λ es. IsErrorBound es scan.bound) c.seen_entries-colors.ensures.numbers scan.is_bound)
     (subst (λ l. IsNearestBy seen_distance entries l c.nearest.result) c.none.ensures
     (c.nearest.ensures entries (subst (λ l. AreSeenLanes l c.of-lanes.result) c.seen_entries-colors.ensures.numbers c.of-lanes.ensures)))
     (subst (λ ps. AreShownAroundBy seen_distance 4 entries 1 c.nearest.result ps c.diffuse_all.new.indices) (sym pixels)
