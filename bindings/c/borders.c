@@ -126,15 +126,15 @@ BORDERS(, pix_rgba8, pix_matte, uint8_t, pix_rgba8_of(1, 2, 3, 4))
 BORDERS(_rgba16, pix_rgba16, pix_matte16, uint16_t, pix_rgba16_of(1, 2, 3, 4))
 BORDERS(_graya8, pix_graya8, pix_matte, uint8_t, pix_graya8_of(1, 2))
 
-/* The number of pixels of a conversion at and above its limit; what is refused first is the number. */
+/* The number of pixels of a conversion at and above what memory holds; what is refused first is the number. */
 static void conversions(void) {
-    const size_t limit = (size_t)PTRDIFF_MAX / 4;
     static const size_t sizes[] = {4, 4, 4, 4, 4, 4, 3, 1, 4, 4, 3, 1};
     uint8_t bytes[16] = {0};
     int from, to;
     for (from = 0; from <= PIX_FORMAT_SGRAY8; from++) {
         CHECK(pix_format_size((pix_format)from) == sizes[from]);
         for (to = 0; to <= PIX_FORMAT_SGRAY8; to++) {
+            const size_t limit = (size_t)PTRDIFF_MAX / (sizes[from] > sizes[to] ? sizes[from] : sizes[to]);
             CHECK(pix_convert((pix_format)from, (pix_format)to, bytes, bytes, limit) == PIX_OVERLAP);
             CHECK(pix_convert((pix_format)from, (pix_format)to, bytes, bytes, limit + 1) == PIX_BAD_LENGTH);
             CHECK(pix_convert((pix_format)from, (pix_format)to, NULL, NULL, SIZE_MAX) == PIX_BAD_LENGTH);

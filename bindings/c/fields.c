@@ -152,16 +152,11 @@ static outcome model(const plain_kind *kind, const int64_t *n) {
         list[0].alpha = (VALUE)n[OPACITY];                                                                             \
         MORE                                                                                                           \
         it.done = 77;                                                                                                  \
-        if (is_window)                                                                                                 \
-            it.status = pix_raw_run_window##S((PIXEL *)(void *)it.after.image + n[IMAGE], (size_t)n[IMAGE_COUNT],      \
-                                              (uint32_t)n[LEFT], (uint32_t)n[TOP], (uint32_t)n[IMAGE_WIDTH],           \
-                                              (uint32_t)n[IMAGE_HEIGHT], (uint32_t)n[IMAGE_STRIDE], list + n[COMMANDS], \
-                                              (size_t)n[COMMAND_COUNT], &it.done);                                     \
-        else                                                                                                           \
-            it.status = pix_raw_run##S((PIXEL *)(void *)it.after.image + n[IMAGE], (size_t)n[IMAGE_COUNT],             \
-                                       (uint32_t)n[IMAGE_WIDTH], (uint32_t)n[IMAGE_HEIGHT],                            \
-                                       (uint32_t)n[IMAGE_STRIDE], list + n[COMMANDS],                                  \
-                                       (size_t)n[COMMAND_COUNT], &it.done);                                            \
+        it.status = pix_raw_run_window##S((PIXEL *)(void *)it.after.image + n[IMAGE], (size_t)n[IMAGE_COUNT],          \
+                                          is_window ? (uint32_t)n[LEFT] : 0, is_window ? (uint32_t)n[TOP] : 0,         \
+                                          (uint32_t)n[IMAGE_WIDTH], (uint32_t)n[IMAGE_HEIGHT],                         \
+                                          (uint32_t)n[IMAGE_STRIDE], list + n[COMMANDS],                               \
+                                          (size_t)n[COMMAND_COUNT], &it.done);                                         \
         return it;                                                                                                     \
     }
 

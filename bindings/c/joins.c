@@ -109,11 +109,9 @@ static size_t make(int way, size_t count, uint8_t alpha, uint8_t rounds, size_t 
     size_t made = 0;
     pix_status status;
     if (way == 0)
-        status = rounds ? pix_quantize_refined(opaque, count, rounds, work, entries, room, &made)
-                        : (pix_status)pix_raw_quantize(opaque, count, work, count, entries, room, &made);
+        status = pix_quantize_refined(opaque, count, rounds, work, entries, room, &made);
     else if (way == 1)
-        status = rounds ? pix_quantize_refined_alpha(pixels, count, alpha, rounds, work, entries, room, &made)
-                        : (pix_status)pix_raw_quantize_alpha(pixels, count, alpha, work, count, entries, room, &made);
+        status = pix_quantize_refined_alpha(pixels, count, alpha, rounds, work, entries, room, &made);
     else
         status = pix_quantize_rgba(pixels, count, rounds, work_rgba, entries_rgba, room, &made);
     return status == PIX_OK ? made : 0;

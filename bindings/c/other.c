@@ -84,10 +84,6 @@ static int has_bytes(const pix_command_rgba16 *it) {
             plain_run_in(&kind, &image, left, top, &same, 1);                                                          \
         }                                                                                                              \
         return PIX_OK;                                                                                                 \
-    }                                                                                                                  \
-    uint32_t pix_raw_run##S(PIXEL *pixels, size_t pixel_count, uint32_t width, uint32_t height, uint32_t stride,       \
-                            const pix_command##S *commands, size_t command_count, size_t *done) {                      \
-        return pix_raw_run_window##S(pixels, pixel_count, 0, 0, width, height, stride, commands, command_count, done); \
     }
 
 #define FOUR_ {it->color.r, it->color.g, it->color.b, it->color.a}
@@ -279,16 +275,6 @@ uint32_t pix_raw_quantize_refined_alpha(const pix_srgba8 *pixels, size_t pixel_c
     return PIX_OK;
 }
 
-uint32_t pix_raw_quantize(const pix_srgb8 *pixels, size_t pixel_count, pix_srgb8 *work, size_t work_len, pix_srgb8 *entries,
-                          size_t len, size_t *made) {
-    return pix_raw_quantize_refined(pixels, pixel_count, 0, work, work_len, entries, len, made);
-}
-
-uint32_t pix_raw_quantize_alpha(const pix_srgba8 *pixels, size_t pixel_count, uint8_t alpha, pix_srgb8 *work, size_t work_len,
-                                pix_srgb8 *entries, size_t len, size_t *made) {
-    return pix_raw_quantize_refined_alpha(pixels, pixel_count, alpha, 0, work, work_len, entries, len, made);
-}
-
 /* What a diffusion of so many pixels is refused with. */
 static uint32_t diffusion_fault(size_t len, size_t count, size_t width, uint8_t strength, uint8_t serpentine, size_t work_len,
                                 size_t index_count) {
@@ -322,8 +308,12 @@ uint32_t pix_raw_diffuse_indexed_by_alpha(const pix_srgb8 *entries, size_t len, 
                                           size_t width, uint8_t alpha, uint8_t transparent_index, uint8_t strength,
                                           uint8_t serpentine, pix_srgb8 *work, size_t work_len, uint8_t *indices,
                                           size_t index_count) {
-    const uint32_t fault = diffusion_fault(len, pixel_count, width, strength, serpentine, work_len, index_count);
+    /* a table of no entry serves pixels that are all clear, and refuses others last */
+    const uint32_t fault = diffusion_fault(len + !len, pixel_count, width, strength, serpentine, work_len, index_count);
     (void)work;
+    for (size_t i = 0; i < pixel_count && !len && !fault; i++)
+        if (pixels[i].a >= alpha)
+            return PIX_BAD_TABLE;
     if (!fault)
         diffuse_colors(entries, len, pixels, pixel_count, width, alpha, transparent_index, strength, serpentine, indices);
     return fault;
@@ -345,18 +335,6 @@ uint32_t pix_raw_diffuse_indexed_by(const pix_srgb8 *entries, size_t len, const 
     diffuse_colors(entries, len, opaque, pixel_count, width, 0, 0, strength, serpentine, indices);
     free(opaque);
     return PIX_OK;
-}
-
-uint32_t pix_raw_diffuse_indexed(const pix_srgb8 *entries, size_t len, const pix_srgb8 *pixels, size_t pixel_count,
-                                 size_t width, pix_srgb8 *work, size_t work_len, uint8_t *indices, size_t index_count) {
-    return pix_raw_diffuse_indexed_by(entries, len, pixels, pixel_count, width, 16, 0, work, work_len, indices, index_count);
-}
-
-uint32_t pix_raw_diffuse_indexed_alpha(const pix_srgb8 *entries, size_t len, const pix_srgba8 *pixels, size_t pixel_count,
-                                       size_t width, uint8_t alpha, uint8_t transparent_index, pix_srgb8 *work,
-                                       size_t work_len, uint8_t *indices, size_t index_count) {
-    return pix_raw_diffuse_indexed_by_alpha(entries, len, pixels, pixel_count, width, alpha, transparent_index, 16, 0, work,
-                                            work_len, indices, index_count);
 }
 
 /* Tables of colors with an alpha. */

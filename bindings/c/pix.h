@@ -75,7 +75,9 @@
  * A source must not share memory with the image that is written. That is tested: see PIX_OVERLAP.
  *
  * Promises. docs/PROMISES.md in the repository lists the promise of each call, and whether it is
- * proved.
+ * proved. A function of this header packs its arguments for a call that is proved, and which refuses
+ * what it can't do. The header itself tests pointers alone: PIX_NULL, PIX_OVERLAP, and PIX_BAD_LENGTH
+ * for more than memory holds, before all else. The few definitions that decide more are marked.
  *
  * The library is built for processors of x86-64 with SSE4.1, and of aarch64, under Linux.
  * pix_check_library tells whether the linked library is the one that this header describes. A
@@ -228,9 +230,8 @@ typedef enum {
     PIX_BAD_OP = 4,     /* no such operator */
     PIX_BAD_SOURCE = 5, /* the source, the matte or the mask of a command: as PIX_BAD_SIZE */
     PIX_BAD_FORMAT = 6, /* no such format */
-    PIX_BAD_LENGTH = 7, /* more pixels to convert than a quarter of PTRDIFF_MAX, more pixels beside a
-                         * table than an eighth, more commands than memory holds, or lengths that do
-                         * not go together */
+    PIX_BAD_LENGTH = 7, /* more pixels, indices or commands than memory holds, or lengths that do not go
+                         * together */
     PIX_NULL = 8,       /* a pointer is null, and what it points to is not empty */
     PIX_OVERLAP = 9,    /* a source, a matte, the list of commands or `done` shares memory with what is written */
     PIX_BAD_LIBRARY = 10, /* the archive that is linked has another version or another layout than this header */
@@ -511,7 +512,7 @@ static inline pix_table pix_table_of(const pix_srgb8 *entries, size_t len);
 static inline pix_status pix_nearest(pix_table table, pix_srgb8 color, uint8_t *index);
 
 /* Writes the index of the nearest entry of each of `count` pixels. Returns PIX_OK, PIX_BAD_TABLE,
- * PIX_BAD_LENGTH (more pixels than an eighth of PTRDIFF_MAX), PIX_NULL or PIX_OVERLAP. */
+ * PIX_BAD_LENGTH (more pixels than memory holds), PIX_NULL or PIX_OVERLAP. */
 static inline pix_status pix_map_indexed(pix_table table, const pix_srgb8 *pixels, size_t count, uint8_t *indices);
 
 /* Writes the index of the nearest entry of each of `count` pixels with an alpha. One whose alpha is
@@ -802,21 +803,15 @@ static inline pix_command_rgba16 pix_composite_image_matte8_rgba16(pix_region to
 
 /* ---- What libpix_c.a has ----
  *
- * The functions above call these, which are proved: pix_X calls pix_raw_X. They test sizes, kinds,
- * regions, operators, sources, formats, lengths, tables, indices, depths and strengths. Here no
- * pointer may be null or badly aligned, even where its length is 0, and even in commands of kinds
- * that do not use it. The image, `done` and `dst` may share memory with nothing else that is
- * passed. Lengths are counted in elements. `stride` is at least the width, and 0 does not stand for
- * it. `serpentine` is 0 where all rows go from left to right. */
+ * The functions above call these, which are proved: pix_X calls pix_raw_X. A short call is a longer
+ * one at fixed arguments: pix_run is pix_run_window at (0, 0), pix_quantize is pix_quantize_refined,
+ * and pix_diffuse_indexed is pix_diffuse_indexed_by. They test sizes, kinds, regions, operators,
+ * sources, formats, lengths, tables, indices, depths and strengths. Here no pointer may be null or
+ * badly aligned, even where its length is 0, and even in commands of kinds that do not use it. The
+ * image, `done` and `dst` may share memory with nothing else that is passed. Lengths are counted in
+ * elements. `stride` is at least the width, and 0 does not stand for it. `serpentine` is 0 where all
+ * rows go from left to right. */
 
-uint32_t pix_raw_run(pix_rgba8 *pixels, size_t pixel_count, uint32_t width, uint32_t height, uint32_t stride,
-                     const pix_command *commands, size_t command_count, size_t *done);
-uint32_t pix_raw_run_rgba16(pix_rgba16 *pixels, size_t pixel_count, uint32_t width, uint32_t height,
-                            uint32_t stride, const pix_command_rgba16 *commands, size_t command_count,
-                            size_t *done);
-uint32_t pix_raw_run_graya8(pix_graya8 *pixels, size_t pixel_count, uint32_t width, uint32_t height,
-                            uint32_t stride, const pix_command_graya8 *commands, size_t command_count,
-                            size_t *done);
 uint32_t pix_raw_run_window(pix_rgba8 *pixels, size_t pixel_count, uint32_t left, uint32_t top, uint32_t width,
                             uint32_t height, uint32_t stride, const pix_command *commands, size_t command_count,
                             size_t *done);
@@ -840,19 +835,10 @@ uint32_t pix_raw_map_indexed(const pix_srgb8 *entries, size_t len, const pix_srg
                              uint8_t *indices, size_t index_count);
 uint32_t pix_raw_map_indexed_alpha(const pix_srgb8 *entries, size_t len, const pix_srgba8 *pixels, size_t pixel_count,
                                    uint8_t alpha, uint8_t transparent_index, uint8_t *indices, size_t index_count);
-uint32_t pix_raw_quantize(const pix_srgb8 *pixels, size_t pixel_count, pix_srgb8 *work, size_t work_len, pix_srgb8 *entries,
-                          size_t len, size_t *made);
-uint32_t pix_raw_quantize_alpha(const pix_srgba8 *pixels, size_t pixel_count, uint8_t alpha, pix_srgb8 *work, size_t work_len,
-                                pix_srgb8 *entries, size_t len, size_t *made);
 uint32_t pix_raw_quantize_refined(const pix_srgb8 *pixels, size_t pixel_count, uint8_t rounds, pix_srgb8 *work, size_t work_len,
                                   pix_srgb8 *entries, size_t len, size_t *made);
 uint32_t pix_raw_quantize_refined_alpha(const pix_srgba8 *pixels, size_t pixel_count, uint8_t alpha, uint8_t rounds,
                                         pix_srgb8 *work, size_t work_len, pix_srgb8 *entries, size_t len, size_t *made);
-uint32_t pix_raw_diffuse_indexed(const pix_srgb8 *entries, size_t len, const pix_srgb8 *pixels, size_t pixel_count,
-                                 size_t width, pix_srgb8 *work, size_t work_len, uint8_t *indices, size_t index_count);
-uint32_t pix_raw_diffuse_indexed_alpha(const pix_srgb8 *entries, size_t len, const pix_srgba8 *pixels, size_t pixel_count,
-                                       size_t width, uint8_t alpha, uint8_t transparent_index, pix_srgb8 *work, size_t work_len,
-                                       uint8_t *indices, size_t index_count);
 uint32_t pix_raw_diffuse_indexed_by(const pix_srgb8 *entries, size_t len, const pix_srgb8 *pixels, size_t pixel_count,
                                     size_t width, uint8_t strength, uint8_t serpentine, pix_srgb8 *work, size_t work_len,
                                     uint8_t *indices, size_t index_count);
@@ -883,10 +869,15 @@ uint32_t pix_layout(size_t index);
 
 /* The version of the binary interface. It changes where a call, a number or a layout changes; a
  * program that was compiled with an older header then does not run. It is the number in the soname,
- * libpix.so.3, and pix_layout(0) returns it. */
-#define PIX_ABI_VERSION 3
+ * libpix.so.4, and pix_layout(0) returns it. */
+#define PIX_ABI_VERSION 4
 
-/* ---- Definitions. Nothing below is for callers. ---- */
+/* ---- Definitions. Nothing below is for callers. ----
+ *
+ * A function packs its arguments: into a view, into a command, or for a call of the archive, which
+ * decides what is refused. Before such a call it has pix_test_ look at the pointers, which the
+ * archive can't. What decides more by itself says so: its comment begins with "Decides:". It is
+ * tested, and not proved. */
 
 /* The layout that the library was compiled for, at any size of pointers. */
 #if defined(__cplusplus)
@@ -949,6 +940,7 @@ PIX_ASSERT_(matte8_count,
         offsetof(pix_command_rgba16, mattes8), offsetof(pix_command_rgba16, matte8_count),                             \
         PIX_COMMAND_FACTS_(pix_command_graya8)
 
+/* Decides: whether each fact is that of the archive. */
 static inline pix_status pix_check_library(void) {
     static const uint32_t facts[] = {PIX_FACTS_};
     const size_t count = sizeof facts / sizeof *facts;
@@ -962,20 +954,20 @@ static inline pix_status pix_check_library(void) {
 /* An address for slices of no elements, aligned for every type above. It is never read. */
 static const uint64_t pix_nothing_ = 0;
 
-/* How many elements an image has from its first to its last one. It is 0 where no memory could hold
- * them, and then the library refuses the size. */
+/* Decides: how many elements an image has from its first to its last one. It is 0 where no memory
+ * could hold them, and then the library refuses the size. */
 static inline size_t pix_extent_(uint32_t width, uint32_t height, uint32_t stride, size_t element) {
     uint64_t extent = height == 0 ? 0 : (uint64_t)(height - 1) * stride + width;
     return extent <= (uint64_t)PTRDIFF_MAX / element ? (size_t)extent : 0;
 }
 
-/* Whether an image has a size that calls take. */
+/* Decides: whether an image has a size that calls take. */
 static inline int pix_is_sized_(uint32_t width, uint32_t height, uint32_t stride, size_t element) {
     return width <= INT32_MAX && height <= INT32_MAX && width <= stride
            && (!height || !width || pix_extent_(width, height, stride, element));
 }
 
-/* Tests what is read beside what is written: both lengths are in bytes. */
+/* Decides: whether what is read is apart from what is written. Both lengths are in bytes. */
 static inline pix_status pix_apart_(const void *written, size_t written_bytes, const void *read, size_t read_bytes) {
     uintptr_t w = (uintptr_t)written, r = (uintptr_t)read;
     if (!written || !read)
@@ -985,6 +977,36 @@ static inline pix_status pix_apart_(const void *written, size_t written_bytes, c
     return (w < r ? r - w < written_bytes : w - r < read_bytes) ? PIX_OVERLAP : PIX_OK;
 }
 
+/* Memory that a call is passed: where it begins, how many elements it has, and their bytes. */
+typedef struct { const void *at; size_t count, size; } pix_memory_;
+
+/* Decides: whether one is there where it has an element, and has no more bytes than memory holds. */
+static inline pix_status pix_is_there_(pix_memory_ it) {
+    if (it.size && it.count > (size_t)PTRDIFF_MAX / it.size)
+        return PIX_BAD_LENGTH;
+    return it.count && !it.at ? PIX_NULL : PIX_OK;
+}
+
+/* Decides: the same of all `count` that a call is passed, and whether the first ones, so many as are
+ * written, share no byte with another one. */
+static inline pix_status pix_test_(const pix_memory_ *memory, size_t written, size_t count) {
+    pix_status status = PIX_OK;
+    size_t i, j;
+    for (i = 0; i < count && status == PIX_OK; i++)
+        status = pix_is_there_(memory[i]);
+    for (i = 0; i < written && status == PIX_OK; i++)
+        for (j = i + 1; j < count && status == PIX_OK; j++)
+            if (memory[i].count && memory[j].count)
+                status = pix_apart_(memory[i].at, memory[i].count * memory[i].size, memory[j].at,
+                                    memory[j].count * memory[j].size);
+    return status;
+}
+
+/* Elements as the archive takes them: their address, which is an aligned one also without elements,
+ * and their number. */
+#define PIX_SLICE_(TYPE, at, count) ((count) ? (at) : (TYPE *)(uintptr_t)&pix_nothing_), (count)
+
+/* Decides: the text of a status. */
 static inline const char *pix_status_text(pix_status status) {
     switch (status) {
     case PIX_OK: return "done";
@@ -1007,7 +1029,7 @@ static inline const char *pix_status_text(pix_status status) {
     return "no such status";
 }
 
-/* Notes a source in `command`: its size, and its elements by address and number. */
+/* Decides: what a command notes of a source, its size, and its elements by address and number. */
 #define PIX_NOTE_(source, elements, source_elements, count)                                                            \
     command.width = source.width;                                                                                      \
     command.height = source.height;                                                                                    \
@@ -1016,7 +1038,7 @@ static inline const char *pix_status_text(pix_status status) {
     if (source.source_elements || command.count)                                                                       \
         command.elements = source.source_elements
 
-/* Notes a mask in `command` likewise. */
+/* Decides: the same of a mask. */
 #define PIX_NOTE_MASK_(matte, region, elements, count)                                                                 \
     command.mask = region;                                                                                             \
     command.mask_width = matte.width;                                                                                  \
@@ -1103,7 +1125,7 @@ static inline const char *pix_status_text(pix_status status) {
 
 /* The calls of one kind of pixels, with the test of what else a command may read. */
 #define PIX_CALLS_(S, PIXEL, VALUE, TEST)                                                                              \
-    /* Tests the pointers of a command beside the bytes that are written. */                                           \
+    /* Decides: whether the memory of a command is apart from the bytes that are written. */                           \
     static inline pix_status pix_beside_##S(const void *written, size_t bytes, const pix_command##S *command) {        \
         pix_status status = pix_apart_(written, bytes, command->pixels, command->pixel_count * sizeof(PIXEL));         \
         if (status != PIX_OK)                                                                                          \
@@ -1111,13 +1133,13 @@ static inline const char *pix_status_text(pix_status status) {
         status = pix_apart_(written, bytes, command->mattes, command->matte_count * sizeof(VALUE));                    \
         return status != PIX_OK ? status : TEST;                                                                       \
     }                                                                                                                  \
-    /* Runs a list on an image, and where `corner` is not null on the window of a picture at that point. */            \
-    static inline pix_status pix_call_##S(pix_image##S image, const uint32_t *corner, const pix_command##S *commands,  \
-                                          size_t count, size_t *done) {                                                \
-        uint32_t stride = image.stride ? image.stride : image.width;                                                   \
-        size_t extent = pix_extent_(image.width, image.height, stride, sizeof(PIXEL)), at = 0;                         \
+    /* Decides: whether all pointers may be passed, and what `done` is where one may not. */                           \
+    static inline pix_status pix_run_window##S(pix_image##S window, uint32_t left, uint32_t top,                       \
+                                               const pix_command##S *commands, size_t count, size_t *done) {           \
+        uint32_t stride = window.stride ? window.stride : window.width;                                                \
+        size_t extent = pix_extent_(window.width, window.height, stride, sizeof(PIXEL)), at = 0;                       \
         uint64_t nothing = 0;                                                                                          \
-        void *pixels = image.pixels || extent ? (void *)image.pixels : (void *)&nothing;                               \
+        void *pixels = window.pixels || extent ? (void *)window.pixels : (void *)&nothing;                             \
         const void *list = commands || count ? (const void *)commands : (const void *)&pix_nothing_;                   \
         int is_inside = done && pix_apart_(pixels, extent * sizeof(PIXEL), done, sizeof *done) == PIX_OVERLAP;         \
         pix_status status = is_inside ? PIX_OVERLAP : PIX_BAD_LENGTH;                                                  \
@@ -1127,26 +1149,16 @@ static inline const char *pix_status_text(pix_status status) {
             status = pix_beside_##S(pixels, extent * sizeof(PIXEL), &commands[at]);                                    \
             at += status == PIX_OK;                                                                                    \
         }                                                                                                              \
-        if (status == PIX_OK && corner)                                                                                \
-            status = (pix_status)pix_raw_run_window##S((PIXEL *)pixels, extent, corner[0], corner[1], image.width,     \
-                                                       image.height, stride, (const pix_command##S *)list, count, &at); \
-        else if (status == PIX_OK)                                                                                     \
-            status = (pix_status)pix_raw_run##S((PIXEL *)pixels, extent, image.width, image.height, stride,            \
-                                                (const pix_command##S *)list, count, &at);                             \
+        if (status == PIX_OK)                                                                                          \
+            status = (pix_status)pix_raw_run_window##S((PIXEL *)pixels, extent, left, top, window.width, window.height,\
+                                                       stride, (const pix_command##S *)list, count, &at);              \
         if (done && !is_inside)                                                                                        \
             *done = at;                                                                                                \
         return status;                                                                                                 \
     }                                                                                                                  \
     static inline pix_status pix_run##S(pix_image##S image, const pix_command##S *commands, size_t count,              \
                                         size_t *done) {                                                                \
-        return pix_call_##S(image, NULL, commands, count, done);                                                       \
-    }                                                                                                                  \
-    static inline pix_status pix_run_window##S(pix_image##S window, uint32_t left, uint32_t top,                       \
-                                               const pix_command##S *commands, size_t count, size_t *done) {           \
-        uint32_t corner[2];                                                                                            \
-        corner[0] = left;                                                                                              \
-        corner[1] = top;                                                                                               \
-        return pix_call_##S(window, corner, commands, count, done);                                                    \
+        return pix_run_window##S(image, 0, 0, commands, count, done);                                                  \
     }                                                                                                                  \
     static inline pix_status pix_do##S(pix_image##S image, pix_command##S command) {                                   \
         return pix_run##S(image, &command, 1, NULL);                                                                   \
@@ -1182,22 +1194,15 @@ static inline size_t pix_format_size(pix_format format) {
 }
 
 static inline pix_status pix_convert(pix_format from, pix_format to, const void *src, void *dst, size_t count) {
-    size_t src_size = pix_format_size(from), dst_size = pix_format_size(to);
-    uint64_t nothing = 0;
-    pix_status status;
-    if ((uint32_t)from > PIX_FORMAT_SGRAY8 || (uint32_t)to > PIX_FORMAT_SGRAY8)
-        return PIX_BAD_FORMAT;
-    if (count > (size_t)PTRDIFF_MAX / 4)
-        return PIX_BAD_LENGTH;
-    if (!count) {
-        src = &pix_nothing_;
-        dst = &nothing;
-    }
-    status = pix_apart_(dst, count * dst_size, src, count * src_size);
+    const size_t src_size = pix_format_size(from), dst_size = pix_format_size(to);
+    const size_t read = count * src_size, written = count * dst_size;
+    const pix_memory_ memory[] = {{dst, count, dst_size}, {src, count, src_size}};
+    const pix_status status = pix_test_(memory, 1, 2);
     if (status != PIX_OK)
         return status;
-    return (pix_status)pix_raw_convert((uint32_t)from, (uint32_t)to, (const uint8_t *)src, count * src_size,
-                                       (uint8_t *)dst, count * dst_size, count);
+    return (pix_status)pix_raw_convert((uint32_t)from, (uint32_t)to,
+                                       PIX_SLICE_(const uint8_t, (const uint8_t *)src, read),
+                                       PIX_SLICE_(uint8_t, (uint8_t *)dst, written), count);
 }
 
 static inline pix_bitmap pix_bitmap_of(void *pixels, uint32_t width, uint32_t height, pix_format format) {
@@ -1216,11 +1221,11 @@ static inline pix_bitmap_view pix_bitmap_view_of_bitmap(pix_bitmap image) {
     return source;
 }
 
-/* The bytes of a bitmap, from the row that is lowest in memory to the end of the row that is
- * highest. `length` is 0 where the size is bad or no memory could hold them, and then the library
- * refuses the size. No address is made before that is known. */
+/* The bytes of a bitmap, from the row that is lowest in memory to the end of the highest one. */
 typedef struct { const uint8_t *lowest; size_t length; int64_t stride; } pix_bytes_;
 
+/* Decides: those of a bitmap. `length` is 0 where the size is bad or no memory could hold them, and
+ * then the library refuses the size. No address is made before that is known. */
 static inline pix_bytes_ pix_bytes_of_(pix_bitmap_view image) {
     pix_bytes_ bytes = {(const uint8_t *)image.pixels, 0, (int64_t)image.stride};
     uint64_t wide = (uint64_t)image.width * pix_format_size(image.format), apart, before;
@@ -1241,6 +1246,8 @@ static inline pix_bytes_ pix_bytes_of_(pix_bitmap_view image) {
     return bytes;
 }
 
+/* Decides: whether both have one size, which the archive takes once, and whether their pointers may
+ * be passed. */
 static inline pix_status pix_convert_bitmap(pix_bitmap_view src, pix_bitmap dst) {
     pix_bytes_ read = pix_bytes_of_(src), written = pix_bytes_of_(pix_bitmap_view_of_bitmap(dst));
     uint64_t nothing = 0;
@@ -1249,8 +1256,6 @@ static inline pix_status pix_convert_bitmap(pix_bitmap_view src, pix_bitmap dst)
         read.lowest = (const uint8_t *)&pix_nothing_;
     if (!written.lowest && !written.length)
         written.lowest = (const uint8_t *)&nothing;
-    if (!pix_format_size(src.format) || !pix_format_size(dst.format))
-        return PIX_BAD_FORMAT;
     if (src.width != dst.width || src.height != dst.height)
         return PIX_BAD_SOURCE;
     status = pix_apart_(written.lowest, written.length, read.lowest, read.length);
@@ -1261,6 +1266,7 @@ static inline pix_status pix_convert_bitmap(pix_bitmap_view src, pix_bitmap dst)
                                               dst.width, dst.height);
 }
 
+/* Decides: the blocks, and what is refused before the first is written. */
 static inline pix_status pix_convert_in_place(pix_bitmap image, pix_format to) {
     const uint32_t most = 64;
     pix_bytes_ bytes = pix_bytes_of_(pix_bitmap_view_of_bitmap(image));
@@ -1290,7 +1296,7 @@ static inline pix_status pix_convert_in_place(pix_bitmap image, pix_format to) {
     return PIX_OK;
 }
 
-/* Cuts the interval of `length` from `start` on at those from 0 to `limit`. */
+/* Decides: how the interval of `length` from `start` on is cut at those from 0 to `limit`. */
 static inline void pix_cut_(int32_t start, uint32_t length, uint32_t limit, uint32_t *first, uint32_t *count) {
     int64_t end = (int64_t)start + length, begin = start < 0 ? 0 : start;
     end = end < (int64_t)limit ? end : (int64_t)limit;
@@ -1298,13 +1304,14 @@ static inline void pix_cut_(int32_t start, uint32_t length, uint32_t limit, uint
     *first = *count ? (uint32_t)begin : 0;
 }
 
-/* How many copies of a length begin in an interval, and no further than the greatest coordinate. */
+/* Decides: how many copies of a length begin in an interval, and no further than the greatest
+ * coordinate. */
 static inline uint64_t pix_copies_(int32_t start, uint32_t length, uint32_t each) {
     const uint64_t left = (uint64_t)((int64_t)INT32_MAX - start + 1), held = length < left ? length : left;
     return each ? (held + each - 1) / each : 0;
 }
 
-/* The region of a copy of a pattern. */
+/* Decides: the region of a copy of a pattern. */
 static inline pix_region pix_copy_of_(pix_region to, uint32_t width, uint32_t height, uint64_t column, uint64_t row) {
     const uint64_t x = column * width, y = row * height, wide = to.width - x, high = to.height - y;
     return pix_region_of((int32_t)(to.x + (int64_t)x), (int32_t)(to.y + (int64_t)y), wide < width ? (uint32_t)wide : width,
@@ -1317,6 +1324,7 @@ static inline pix_region pix_copy_of_(pix_region to, uint32_t width, uint32_t he
         same.stride = (ptrdiff_t)((image.stride ? image.stride : image.width) * sizeof *image.pixels);                 \
         return same;                                                                                                   \
     }                                                                                                                  \
+    /* Decides: the part, and all of the image where that has a size that is refused. */                               \
     static inline pix_image##S pix_part_of##S(pix_image##S image, pix_region region) {                                 \
         pix_image##S part = image;                                                                                     \
         uint32_t left, top;                                                                                            \
@@ -1336,6 +1344,7 @@ static inline pix_region pix_copy_of_(pix_region to, uint32_t width, uint32_t he
         pix_convert_bitmap(pix_bitmap_view_of(pixel, 1, 1, format), pix_bitmap_of(&color, 1, 1, FORMAT));              \
         return color;                                                                                                  \
     }                                                                                                                  \
+    /* Decides: the copies of a pattern. */                                                                            \
     static inline uint64_t pix_repeat_image##S(pix_command##S *commands, uint64_t room, pix_region to,                 \
                                                pix_view##S source, pix_region from, pix_op op) {                       \
         const uint64_t columns = pix_copies_(to.x, to.width, from.width);                                              \
@@ -1350,6 +1359,7 @@ PIX_PARTS_(, pix_rgba8, PIX_FORMAT_RGBA8P)
 PIX_PARTS_(_rgba16, pix_rgba16, PIX_FORMAT_RGBA16P)
 PIX_PARTS_(_graya8, pix_graya8, PIX_FORMAT_GRAYA8P)
 
+/* Decides: the part, as pix_part_of does. */
 static inline pix_bitmap pix_part_of_bitmap(pix_bitmap image, pix_region region) {
     pix_bitmap part = image;
     uint32_t left, top;
@@ -1373,130 +1383,83 @@ static inline pix_table pix_table_of(const pix_srgb8 *entries, size_t len) {
     return table;
 }
 
-/* Whether so many elements, of at most eight bytes, are more than memory holds. */
-static inline int pix_too_many_(size_t count) {
-    return count > (size_t)PTRDIFF_MAX / 8;
+/* Decides: how many entries of a table are passed. Any number above 256 is passed as 257: such a
+ * table is refused alike, and no index is past them. */
+static inline size_t pix_passed_(size_t len) {
+    return len < 257 ? len : 257;
 }
 
 static inline pix_status pix_nearest(pix_table table, pix_srgb8 color, uint8_t *index) {
-    pix_status status;
-    if (!table.len || table.len > 256)
-        return PIX_BAD_TABLE;
-    status = pix_apart_(index, 1, table.entries, table.len * sizeof *table.entries);
+    const size_t len = pix_passed_(table.len);
+    const pix_memory_ memory[] = {{index, 1, 1}, {table.entries, len, sizeof *table.entries}};
+    const pix_status status = pix_test_(memory, 1, 2);
     if (status != PIX_OK)
         return status;
-    return (pix_status)pix_raw_nearest(table.entries, table.len, &color, index);
+    return (pix_status)pix_raw_nearest(PIX_SLICE_(const pix_srgb8, table.entries, len), &color, index);
 }
 
 static inline pix_status pix_map_indexed(pix_table table, const pix_srgb8 *pixels, size_t count, uint8_t *indices) {
-    const pix_srgb8 none = {0, 0, 0};
-    uint8_t nothing = 0;
-    pix_status status;
-    if (!table.len || table.len > 256)
-        return PIX_BAD_TABLE;
-    if (pix_too_many_(count))
-        return PIX_BAD_LENGTH;
-    if (!count) {
-        pixels = &none;
-        indices = &nothing;
-    }
-    status = pix_apart_(indices, count, table.entries, table.len * sizeof *table.entries);
-    if (status == PIX_OK)
-        status = pix_apart_(indices, count, pixels, count * sizeof *pixels);
+    const size_t len = pix_passed_(table.len);
+    const pix_memory_ memory[] = {
+        {indices, count, 1}, {table.entries, len, sizeof *table.entries}, {pixels, count, sizeof *pixels}};
+    const pix_status status = pix_test_(memory, 1, 3);
     if (status != PIX_OK)
         return status;
-    return (pix_status)pix_raw_map_indexed(table.entries, table.len, pixels, count, indices, count);
+    return (pix_status)pix_raw_map_indexed(PIX_SLICE_(const pix_srgb8, table.entries, len),
+                                           PIX_SLICE_(const pix_srgb8, pixels, count),
+                                           PIX_SLICE_(uint8_t, indices, count));
 }
 
 static inline pix_status pix_map_indexed_alpha(pix_table table, const pix_srgba8 *pixels, size_t count, uint8_t alpha,
                                                uint8_t transparent_index, uint8_t *indices) {
-    const pix_srgba8 none = {0, 0, 0, 0};
-    const pix_srgb8 no_entry = {0, 0, 0};
-    uint8_t nothing = 0;
-    pix_status status;
-    if (table.len > 256)
-        return PIX_BAD_TABLE;
-    if (pix_too_many_(count))
-        return PIX_BAD_LENGTH;
-    if (!table.len)
-        table.entries = &no_entry;
-    if (!count) {
-        pixels = &none;
-        indices = &nothing;
-    }
-    status = pix_apart_(indices, count, table.entries, table.len * sizeof *table.entries);
-    if (status == PIX_OK)
-        status = pix_apart_(indices, count, pixels, count * sizeof *pixels);
+    const size_t len = pix_passed_(table.len);
+    const pix_memory_ memory[] = {
+        {indices, count, 1}, {table.entries, len, sizeof *table.entries}, {pixels, count, sizeof *pixels}};
+    const pix_status status = pix_test_(memory, 1, 3);
     if (status != PIX_OK)
         return status;
-    return (pix_status)pix_raw_map_indexed_alpha(table.entries, table.len, pixels, count, alpha, transparent_index, indices,
-                                                 count);
+    return (pix_status)pix_raw_map_indexed_alpha(PIX_SLICE_(const pix_srgb8, table.entries, len),
+                                                 PIX_SLICE_(const pix_srgba8, pixels, count), alpha, transparent_index,
+                                                 PIX_SLICE_(uint8_t, indices, count));
 }
 
 static inline size_t pix_quantize_work(size_t count) {
     return count;
 }
 
+/* Decides: what stands for more than memory holds. */
 static inline size_t pix_diffuse_indexed_work(size_t width) {
     return width > (size_t)PTRDIFF_MAX / 16 ? SIZE_MAX : 4 * width;
 }
 
-/* Tests what a table is made of and in. Each of the pixels is so many bytes, and so is each color
- * of the work memory and of the entries. */
-static inline pix_status pix_quantizes_(const void *pixels, size_t size, size_t count, const void *work, const void *entries,
-                                        size_t color_size, size_t len, const size_t *made) {
-    size_t bytes, work_bytes, table_bytes;
-    pix_status status = made ? PIX_OK : PIX_NULL;
-    if (!len || len > 256)
-        return PIX_BAD_TABLE;
-    if (pix_too_many_(count))
-        return PIX_BAD_LENGTH;
-    bytes = count * size;
-    work_bytes = count * color_size;
-    table_bytes = len * color_size;
-    if (status == PIX_OK)
-        status = pix_apart_(entries, table_bytes, pixels, bytes);
-    if (status == PIX_OK)
-        status = pix_apart_(work, work_bytes, pixels, bytes);
-    if (status == PIX_OK)
-        status = pix_apart_(work, work_bytes, entries, table_bytes);
-    if (status == PIX_OK)
-        status = pix_apart_(made, sizeof *made, pixels, bytes);
-    if (status == PIX_OK)
-        status = pix_apart_(made, sizeof *made, work, work_bytes);
-    if (status == PIX_OK)
-        status = pix_apart_(made, sizeof *made, entries, table_bytes);
-    return status;
-}
-
 static inline pix_status pix_quantize_refined(const pix_srgb8 *pixels, size_t count, uint8_t rounds, pix_srgb8 *work,
                                               pix_srgb8 *entries, size_t len, size_t *made) {
-    const pix_srgb8 none = {0, 0, 0};
-    pix_srgb8 nothing = {0, 0, 0};
-    pix_status status;
-    if (!count) {
-        pixels = &none;
-        work = &nothing;
-    }
-    status = pix_quantizes_(pixels, sizeof *pixels, count, work, entries, sizeof *entries, len, made);
+    const size_t room = pix_passed_(len);
+    const pix_memory_ memory[] = {{entries, room, sizeof *entries},
+                                  {work, count, sizeof *work},
+                                  {made, 1, sizeof *made},
+                                  {pixels, count, sizeof *pixels}};
+    const pix_status status = pix_test_(memory, 3, 4);
     if (status != PIX_OK)
         return status;
-    return (pix_status)pix_raw_quantize_refined(pixels, count, rounds, work, count, entries, len, made);
+    return (pix_status)pix_raw_quantize_refined(PIX_SLICE_(const pix_srgb8, pixels, count), rounds,
+                                                PIX_SLICE_(pix_srgb8, work, count),
+                                                PIX_SLICE_(pix_srgb8, entries, room), made);
 }
 
 static inline pix_status pix_quantize_refined_alpha(const pix_srgba8 *pixels, size_t count, uint8_t alpha, uint8_t rounds,
                                                     pix_srgb8 *work, pix_srgb8 *entries, size_t len, size_t *made) {
-    const pix_srgba8 none = {0, 0, 0, 0};
-    pix_srgb8 nothing = {0, 0, 0};
-    pix_status status;
-    if (!count) {
-        pixels = &none;
-        work = &nothing;
-    }
-    status = pix_quantizes_(pixels, sizeof *pixels, count, work, entries, sizeof *entries, len, made);
+    const size_t room = pix_passed_(len);
+    const pix_memory_ memory[] = {{entries, room, sizeof *entries},
+                                  {work, count, sizeof *work},
+                                  {made, 1, sizeof *made},
+                                  {pixels, count, sizeof *pixels}};
+    const pix_status status = pix_test_(memory, 3, 4);
     if (status != PIX_OK)
         return status;
-    return (pix_status)pix_raw_quantize_refined_alpha(pixels, count, alpha, rounds, work, count, entries, len, made);
+    return (pix_status)pix_raw_quantize_refined_alpha(PIX_SLICE_(const pix_srgba8, pixels, count), alpha, rounds,
+                                                      PIX_SLICE_(pix_srgb8, work, count),
+                                                      PIX_SLICE_(pix_srgb8, entries, room), made);
 }
 
 static inline pix_status pix_quantize(const pix_srgb8 *pixels, size_t count, pix_srgb8 *work, pix_srgb8 *entries, size_t len,
@@ -1514,80 +1477,36 @@ static inline pix_diffusion pix_default_diffusion(void) {
     return how;
 }
 
-/* Tests how errors are diffused, and the lengths. */
-static inline pix_status pix_diffuses_by_(pix_diffusion how, size_t count, size_t width) {
-    const size_t work_len = pix_diffuse_indexed_work(width);
-    if (how.strength > 16)
-        return PIX_BAD_STRENGTH;
-    if (pix_too_many_(count) || !work_len || work_len == SIZE_MAX || (how.serpentine && count % width))
-        return PIX_BAD_LENGTH;
-    return PIX_OK;
-}
-
-/* Tests what errors are diffused in. All but the indices are so many bytes. */
-static inline pix_status pix_diffuses_(const void *entries, size_t table_bytes, const void *pixels, size_t bytes,
-                                       const void *work, size_t work_bytes, const uint8_t *indices, size_t count) {
-    pix_status status = pix_apart_(indices, count, entries, table_bytes);
-    if (status == PIX_OK)
-        status = pix_apart_(indices, count, pixels, bytes);
-    if (status == PIX_OK)
-        status = pix_apart_(work, work_bytes, indices, count);
-    if (status == PIX_OK)
-        status = pix_apart_(work, work_bytes, entries, table_bytes);
-    if (status == PIX_OK)
-        status = pix_apart_(work, work_bytes, pixels, bytes);
-    return status;
-}
-
 static inline pix_status pix_diffuse_indexed_by(pix_table table, const pix_srgb8 *pixels, size_t count, size_t width,
                                                 pix_diffusion how, pix_srgb8 *work, uint8_t *indices) {
-    const pix_srgb8 none = {0, 0, 0};
-    const size_t work_len = pix_diffuse_indexed_work(width);
-    uint8_t nothing = 0;
-    pix_status status = pix_diffuses_by_(how, count, width);
-    if (!table.len || table.len > 256)
-        return PIX_BAD_TABLE;
+    const size_t len = pix_passed_(table.len), work_len = pix_diffuse_indexed_work(width);
+    const pix_memory_ memory[] = {{indices, count, 1},
+                                  {work, work_len, sizeof *work},
+                                  {table.entries, len, sizeof *table.entries},
+                                  {pixels, count, sizeof *pixels}};
+    const pix_status status = pix_test_(memory, 2, 4);
     if (status != PIX_OK)
         return status;
-    if (!count) {
-        pixels = &none;
-        indices = &nothing;
-    }
-    status = pix_diffuses_(table.entries, table.len * sizeof *table.entries, pixels, count * sizeof *pixels, work,
-                           work_len * sizeof *work, indices, count);
-    if (status != PIX_OK)
-        return status;
-    return (pix_status)pix_raw_diffuse_indexed_by(table.entries, table.len, pixels, count, width, how.strength, how.serpentine,
-                                                  work, work_len, indices, count);
+    return (pix_status)pix_raw_diffuse_indexed_by(
+        PIX_SLICE_(const pix_srgb8, table.entries, len), PIX_SLICE_(const pix_srgb8, pixels, count), width,
+        how.strength, how.serpentine, PIX_SLICE_(pix_srgb8, work, work_len), PIX_SLICE_(uint8_t, indices, count));
 }
 
 static inline pix_status pix_diffuse_indexed_by_alpha(pix_table table, const pix_srgba8 *pixels, size_t count, size_t width,
                                                       uint8_t alpha, uint8_t transparent_index, pix_diffusion how,
                                                       pix_srgb8 *work, uint8_t *indices) {
-    const pix_srgba8 none = {0, 0, 0, 0};
-    const pix_srgb8 no_entry = {0, 0, 0};
-    const size_t work_len = pix_diffuse_indexed_work(width);
-    uint8_t nothing = 0;
-    pix_status status = pix_diffuses_by_(how, count, width);
-    if (table.len > 256)
-        return PIX_BAD_TABLE;
+    const size_t len = pix_passed_(table.len), work_len = pix_diffuse_indexed_work(width);
+    const pix_memory_ memory[] = {{indices, count, 1},
+                                  {work, work_len, sizeof *work},
+                                  {table.entries, len, sizeof *table.entries},
+                                  {pixels, count, sizeof *pixels}};
+    const pix_status status = pix_test_(memory, 2, 4);
     if (status != PIX_OK)
         return status;
-    if (!table.len)
-        table.entries = &no_entry;
-    if (!count) {
-        pixels = &none;
-        indices = &nothing;
-    }
-    status = pix_diffuses_(table.entries, table.len * sizeof *table.entries, pixels, count * sizeof *pixels, work,
-                           work_len * sizeof *work, indices, count);
-    if (status != PIX_OK)
-        return status;
-    if (!table.len)
-        return (pix_status)pix_raw_map_indexed_alpha(table.entries, 0, pixels, count, alpha, transparent_index, indices, count);
-    return (pix_status)pix_raw_diffuse_indexed_by_alpha(table.entries, table.len, pixels, count, width, alpha,
-                                                        transparent_index, how.strength, how.serpentine, work, work_len,
-                                                        indices, count);
+    return (pix_status)pix_raw_diffuse_indexed_by_alpha(
+        PIX_SLICE_(const pix_srgb8, table.entries, len), PIX_SLICE_(const pix_srgba8, pixels, count), width, alpha,
+        transparent_index, how.strength, how.serpentine, PIX_SLICE_(pix_srgb8, work, work_len),
+        PIX_SLICE_(uint8_t, indices, count));
 }
 
 static inline pix_status pix_diffuse_indexed(pix_table table, const pix_srgb8 *pixels, size_t count, size_t width,
@@ -1604,70 +1523,40 @@ static inline pix_status pix_diffuse_indexed_alpha(pix_table table, const pix_sr
 
 static inline pix_status pix_index_pixels(pix_srgb8 *entries, size_t len, size_t *used, pix_srgb8 threshold,
                                           const pix_srgb8 *pixels, size_t count, uint8_t *indices) {
-    const pix_srgb8 none = {0, 0, 0};
-    uint8_t nothing = 0;
-    pix_status status;
-    if (!len || len > 256)
-        return PIX_BAD_TABLE;
-    if (pix_too_many_(count))
-        return PIX_BAD_LENGTH;
-    if (!count) {
-        pixels = &none;
-        indices = &nothing;
-    }
-    status = used ? pix_apart_(entries, len * sizeof *entries, pixels, count * sizeof *pixels) : PIX_NULL;
-    if (status == PIX_OK)
-        status = pix_apart_(indices, count, pixels, count * sizeof *pixels);
-    if (status == PIX_OK)
-        status = pix_apart_(indices, count, entries, len * sizeof *entries);
-    if (status == PIX_OK)
-        status = pix_apart_(used, sizeof *used, pixels, count * sizeof *pixels);
-    if (status == PIX_OK)
-        status = pix_apart_(used, sizeof *used, entries, len * sizeof *entries);
-    if (status == PIX_OK)
-        status = pix_apart_(used, sizeof *used, indices, count);
+    const size_t room = pix_passed_(len);
+    const pix_memory_ memory[] = {{entries, room, sizeof *entries},
+                                  {used, 1, sizeof *used},
+                                  {indices, count, 1},
+                                  {pixels, count, sizeof *pixels}};
+    const pix_status status = pix_test_(memory, 3, 4);
     if (status != PIX_OK)
         return status;
-    return (pix_status)pix_raw_index_pixels(entries, len, used, &threshold, pixels, count, indices, count);
+    return (pix_status)pix_raw_index_pixels(PIX_SLICE_(pix_srgb8, entries, room), used, &threshold,
+                                            PIX_SLICE_(const pix_srgb8, pixels, count),
+                                            PIX_SLICE_(uint8_t, indices, count));
 }
 
 static inline pix_status pix_look_up(pix_table table, const uint8_t *indices, size_t count, pix_srgb8 *pixels) {
-    const pix_srgb8 no_entry = {0, 0, 0};
-    pix_srgb8 none = {0, 0, 0};
-    const uint8_t nothing = 0;
-    pix_status status;
-    if (pix_too_many_(count) || pix_too_many_(table.len))
-        return PIX_BAD_LENGTH;
-    if (!count) {
-        indices = &nothing;
-        pixels = &none;
-    }
-    if (!table.len)
-        table.entries = &no_entry;
-    status = pix_apart_(pixels, count * sizeof *pixels, table.entries, table.len * sizeof *table.entries);
-    if (status == PIX_OK)
-        status = pix_apart_(pixels, count * sizeof *pixels, indices, count);
+    const size_t len = pix_passed_(table.len);
+    const pix_memory_ memory[] = {
+        {pixels, count, sizeof *pixels}, {table.entries, len, sizeof *table.entries}, {indices, count, 1}};
+    const pix_status status = pix_test_(memory, 1, 3);
     if (status != PIX_OK)
         return status;
-    return (pix_status)pix_raw_look_up(table.entries, table.len, indices, count, pixels, count);
+    return (pix_status)pix_raw_look_up(PIX_SLICE_(const pix_srgb8, table.entries, len),
+                                       PIX_SLICE_(const uint8_t, indices, count), PIX_SLICE_(pix_srgb8, pixels, count));
 }
 
 static inline pix_status pix_count_indices(const uint8_t *indices, size_t count, size_t *counts, size_t len) {
-    const uint8_t nothing = 0;
-    size_t none = 0;
-    pix_status status;
-    if (pix_too_many_(count) || pix_too_many_(len))
-        return PIX_BAD_LENGTH;
-    if (!count)
-        indices = &nothing;
-    if (!len)
-        counts = &none;
-    status = pix_apart_(counts, len * sizeof *counts, indices, count);
+    const pix_memory_ memory[] = {{counts, len, sizeof *counts}, {indices, count, 1}};
+    const pix_status status = pix_test_(memory, 1, 2);
     if (status != PIX_OK)
         return status;
-    return (pix_status)pix_raw_count_indices(indices, count, counts, len);
+    return (pix_status)pix_raw_count_indices(PIX_SLICE_(const uint8_t, indices, count),
+                                             PIX_SLICE_(size_t, counts, len));
 }
 
+/* Decides: the bytes of a row, and none for a depth that there is not. */
 static inline size_t pix_row_size(uint32_t bits, size_t count) {
     size_t places;
     if (bits != 1 && bits != 2 && bits != 4 && bits != 8)
@@ -1677,37 +1566,23 @@ static inline size_t pix_row_size(uint32_t bits, size_t count) {
 }
 
 static inline pix_status pix_pack_row(uint32_t bits, const uint8_t *indices, size_t count, uint8_t *bytes) {
-    const uint8_t no_index = 0;
-    uint8_t nothing = 0;
-    size_t size = pix_row_size(bits, count);
-    pix_status status;
-    if (pix_too_many_(count))
-        return PIX_BAD_LENGTH;
-    if (!count) {
-        indices = &no_index;
-        bytes = &nothing;
-    }
-    status = pix_apart_(bytes, size, indices, count);
+    const size_t size = pix_row_size(bits, count);
+    const pix_memory_ memory[] = {{bytes, size, 1}, {indices, count, 1}};
+    const pix_status status = pix_test_(memory, 1, 2);
     if (status != PIX_OK)
         return status;
-    return (pix_status)pix_raw_pack_row(bits, indices, count, bytes, size);
+    return (pix_status)pix_raw_pack_row(bits, PIX_SLICE_(const uint8_t, indices, count),
+                                        PIX_SLICE_(uint8_t, bytes, size));
 }
 
 static inline pix_status pix_unpack_row(uint32_t bits, const uint8_t *bytes, size_t count, uint8_t *indices) {
-    const uint8_t no_byte = 0;
-    uint8_t nothing = 0;
-    size_t size = pix_row_size(bits, count);
-    pix_status status;
-    if (pix_too_many_(count))
-        return PIX_BAD_LENGTH;
-    if (!count) {
-        bytes = &no_byte;
-        indices = &nothing;
-    }
-    status = pix_apart_(indices, count, bytes, size);
+    const size_t size = pix_row_size(bits, count);
+    const pix_memory_ memory[] = {{indices, count, 1}, {bytes, size, 1}};
+    const pix_status status = pix_test_(memory, 1, 2);
     if (status != PIX_OK)
         return status;
-    return (pix_status)pix_raw_unpack_row(bits, bytes, size, indices, count);
+    return (pix_status)pix_raw_unpack_row(bits, PIX_SLICE_(const uint8_t, bytes, size),
+                                          PIX_SLICE_(uint8_t, indices, count));
 }
 
 static inline pix_table_rgba pix_table_rgba_of(const pix_srgba8 *entries, size_t len) {
@@ -1719,80 +1594,56 @@ static inline pix_table_rgba pix_table_rgba_of(const pix_srgba8 *entries, size_t
 
 static inline pix_status pix_quantize_rgba(const pix_srgba8 *pixels, size_t count, uint8_t rounds, pix_srgba8 *work,
                                            pix_srgba8 *entries, size_t len, size_t *made) {
-    const pix_srgba8 none = {0, 0, 0, 0};
-    pix_srgba8 nothing = {0, 0, 0, 0};
-    pix_status status;
-    if (!count) {
-        pixels = &none;
-        work = &nothing;
-    }
-    status = pix_quantizes_(pixels, sizeof *pixels, count, work, entries, sizeof *entries, len, made);
+    const size_t room = pix_passed_(len);
+    const pix_memory_ memory[] = {{entries, room, sizeof *entries},
+                                  {work, count, sizeof *work},
+                                  {made, 1, sizeof *made},
+                                  {pixels, count, sizeof *pixels}};
+    const pix_status status = pix_test_(memory, 3, 4);
     if (status != PIX_OK)
         return status;
-    return (pix_status)pix_raw_quantize_rgba(pixels, count, rounds, work, count, entries, len, made);
+    return (pix_status)pix_raw_quantize_rgba(PIX_SLICE_(const pix_srgba8, pixels, count), rounds,
+                                             PIX_SLICE_(pix_srgba8, work, count), PIX_SLICE_(pix_srgba8, entries, room),
+                                             made);
 }
 
 static inline pix_status pix_map_indexed_rgba(pix_table_rgba table, const pix_srgba8 *pixels, size_t count, uint8_t *indices) {
-    const pix_srgba8 none = {0, 0, 0, 0};
-    uint8_t nothing = 0;
-    pix_status status;
-    if (!table.len || table.len > 256)
-        return PIX_BAD_TABLE;
-    if (pix_too_many_(count))
-        return PIX_BAD_LENGTH;
-    if (!count) {
-        pixels = &none;
-        indices = &nothing;
-    }
-    status = pix_apart_(indices, count, table.entries, table.len * sizeof *table.entries);
-    if (status == PIX_OK)
-        status = pix_apart_(indices, count, pixels, count * sizeof *pixels);
+    const size_t len = pix_passed_(table.len);
+    const pix_memory_ memory[] = {
+        {indices, count, 1}, {table.entries, len, sizeof *table.entries}, {pixels, count, sizeof *pixels}};
+    const pix_status status = pix_test_(memory, 1, 3);
     if (status != PIX_OK)
         return status;
-    return (pix_status)pix_raw_map_indexed_rgba(table.entries, table.len, pixels, count, indices, count);
+    return (pix_status)pix_raw_map_indexed_rgba(PIX_SLICE_(const pix_srgba8, table.entries, len),
+                                                PIX_SLICE_(const pix_srgba8, pixels, count),
+                                                PIX_SLICE_(uint8_t, indices, count));
 }
 
 static inline pix_status pix_diffuse_indexed_rgba(pix_table_rgba table, const pix_srgba8 *pixels, size_t count, size_t width,
                                                   pix_diffusion how, pix_srgba8 *work, uint8_t *indices) {
-    const pix_srgba8 none = {0, 0, 0, 0};
-    const size_t work_len = pix_diffuse_indexed_work(width);
-    uint8_t nothing = 0;
-    pix_status status = pix_diffuses_by_(how, count, width);
-    if (!table.len || table.len > 256)
-        return PIX_BAD_TABLE;
+    const size_t len = pix_passed_(table.len), work_len = pix_diffuse_indexed_work(width);
+    const pix_memory_ memory[] = {{indices, count, 1},
+                                  {work, work_len, sizeof *work},
+                                  {table.entries, len, sizeof *table.entries},
+                                  {pixels, count, sizeof *pixels}};
+    const pix_status status = pix_test_(memory, 2, 4);
     if (status != PIX_OK)
         return status;
-    if (!count) {
-        pixels = &none;
-        indices = &nothing;
-    }
-    status = pix_diffuses_(table.entries, table.len * sizeof *table.entries, pixels, count * sizeof *pixels, work,
-                           work_len * sizeof *work, indices, count);
-    if (status != PIX_OK)
-        return status;
-    return (pix_status)pix_raw_diffuse_indexed_rgba(table.entries, table.len, pixels, count, width, how.strength,
-                                                    how.serpentine, work, work_len, indices, count);
+    return (pix_status)pix_raw_diffuse_indexed_rgba(
+        PIX_SLICE_(const pix_srgba8, table.entries, len), PIX_SLICE_(const pix_srgba8, pixels, count), width,
+        how.strength, how.serpentine, PIX_SLICE_(pix_srgba8, work, work_len), PIX_SLICE_(uint8_t, indices, count));
 }
 
 static inline pix_status pix_look_up_rgba(pix_table_rgba table, const uint8_t *indices, size_t count, pix_srgba8 *pixels) {
-    const pix_srgba8 no_entry = {0, 0, 0, 0};
-    pix_srgba8 none = {0, 0, 0, 0};
-    const uint8_t nothing = 0;
-    pix_status status;
-    if (pix_too_many_(count) || pix_too_many_(table.len))
-        return PIX_BAD_LENGTH;
-    if (!count) {
-        indices = &nothing;
-        pixels = &none;
-    }
-    if (!table.len)
-        table.entries = &no_entry;
-    status = pix_apart_(pixels, count * sizeof *pixels, table.entries, table.len * sizeof *table.entries);
-    if (status == PIX_OK)
-        status = pix_apart_(pixels, count * sizeof *pixels, indices, count);
+    const size_t len = pix_passed_(table.len);
+    const pix_memory_ memory[] = {
+        {pixels, count, sizeof *pixels}, {table.entries, len, sizeof *table.entries}, {indices, count, 1}};
+    const pix_status status = pix_test_(memory, 1, 3);
     if (status != PIX_OK)
         return status;
-    return (pix_status)pix_raw_look_up_rgba(table.entries, table.len, indices, count, pixels, count);
+    return (pix_status)pix_raw_look_up_rgba(PIX_SLICE_(const pix_srgba8, table.entries, len),
+                                            PIX_SLICE_(const uint8_t, indices, count),
+                                            PIX_SLICE_(pix_srgba8, pixels, count));
 }
 
 #undef PIX_ASSERT_
@@ -1804,6 +1655,7 @@ static inline pix_status pix_look_up_rgba(pix_table_rgba table, const uint8_t *i
 #undef PIX_COMMANDS_
 #undef PIX_CALLS_
 #undef PIX_PARTS_
+#undef PIX_SLICE_
 
 #ifdef __cplusplus
 }

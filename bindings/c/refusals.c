@@ -178,11 +178,11 @@ static void windows(void) {
 static void lengths(void) {
     const pix_region whole = pix_region_of(0, 0, SIDE, SIDE);
     pix_command command = pix_copy_image(whole, pix_view_of(other, SIDE, SIDE), whole);
-    uint8_t from[8] = {0}, to[8] = {0};
+    uint8_t from[16] = {0}, to[16] = {0};
     size_t done = 77;
-    CHECK(pix_raw_run(pixels, POINTS - 1, SIDE, SIDE, SIDE, &command, 1, &done) == PIX_BAD_SIZE && done == 0);
+    CHECK(pix_raw_run_window(pixels, POINTS - 1, 0, 0, SIDE, SIDE, SIDE, &command, 1, &done) == PIX_BAD_SIZE && done == 0);
     command.pixel_count = POINTS - 1;
-    CHECK(pix_raw_run(pixels, POINTS, SIDE, SIDE, SIDE, &command, 1, &done) == PIX_BAD_SOURCE && done == 0);
+    CHECK(pix_raw_run_window(pixels, POINTS, 0, 0, SIDE, SIDE, SIDE, &command, 1, &done) == PIX_BAD_SOURCE && done == 0);
     CHECK(is_reset());
     CHECK(pix_raw_convert(PIX_FORMAT_RGBA8, PIX_FORMAT_BGRA8, from, 7, to, 8, 2) == PIX_BAD_LENGTH);
     CHECK(pix_raw_convert(PIX_FORMAT_RGBA8, PIX_FORMAT_BGRA8, from, 8, to, 7, 2) == PIX_BAD_LENGTH);

@@ -212,7 +212,7 @@ static void by_hand(void) {
 static void refused(void) {
     static const pix_diffusion how = {16, false}, strong = {17, false}, turning = {16, true};
     pix_srgba8 entries[257] = {{1, 2, 3, 4}, {5, 6, 7, 8}}, some[8] = {{7, 8, 9, 10}, {1, 1, 1, 1}, {2, 2, 2, 2}};
-    pix_srgba8 room[8] = {{5, 5, 5, 5}};
+    pix_srgba8 room[12] = {{5, 5, 5, 5}};
     const pix_table_rgba table = pix_table_rgba_of(entries, 2), none = pix_table_rgba_of(entries, 0);
     const pix_table_rgba large = pix_table_rgba_of(entries, 257);
     uint8_t index[3] = {1, 1, 2};

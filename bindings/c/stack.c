@@ -192,21 +192,17 @@ static pix_status look_up_rgba(void) {
 static pix_status make(void) {
     static pix_srgb8 made[ENTRIES];
     size_t len = 0;
-    uint32_t status = pix_raw_quantize(grays, ENTRIES, work, ENTRIES, made, ENTRIES, &len);
+    pix_status status = pix_quantize_refined(grays, ENTRIES, 0, work, made, ENTRIES, &len);
     if (status == PIX_OK)
-        status = pix_raw_quantize(repeated, COUNT, work, COUNT, made, ENTRIES, &len);
-    if (status == PIX_OK)
-        status = pix_raw_quantize(colors, COUNT, work, COUNT, made, ENTRIES, &len);
-    return (pix_status)status;
+        status = pix_quantize_refined(repeated, COUNT, 0, work, made, ENTRIES, &len);
+    return status == PIX_OK ? pix_quantize_refined(colors, COUNT, 0, work, made, ENTRIES, &len) : status;
 }
 
 static pix_status make_alpha(void) {
     static pix_srgb8 made[ENTRIES];
     size_t len = 0;
-    uint32_t status = pix_raw_quantize_alpha(repeated_shades, COUNT, 128, work, COUNT, made, ENTRIES, &len);
-    if (status == PIX_OK)
-        status = pix_raw_quantize_alpha(shades, COUNT, 128, work, COUNT, made, ENTRIES, &len);
-    return (pix_status)status;
+    pix_status status = pix_quantize_refined_alpha(repeated_shades, COUNT, 128, 0, work, made, ENTRIES, &len);
+    return status == PIX_OK ? pix_quantize_refined_alpha(shades, COUNT, 128, 0, work, made, ENTRIES, &len) : status;
 }
 
 static pix_status make_by_default(void) {
@@ -300,8 +296,8 @@ static const struct { const char *name; size_t kibibytes; pix_status (*call)(voi
     {"pix_convert_in_place", FEW, convert_in_place},
     {"pix_color_of", FEW, colors_of},
     {"pix_nearest", FEW, find},
-    {"pix_raw_quantize", MAKING, make},
-    {"pix_raw_quantize_alpha", MAKING, make_alpha},
+    {"pix_quantize_refined, without rounds", MATCHING, make},
+    {"pix_quantize_refined_alpha, without rounds", MATCHING, make_alpha},
     {"pix_quantize", MATCHING, make_by_default},
     {"pix_quantize_alpha", MATCHING, make_alpha_by_default},
     {"pix_look_up", FEW, look_up},

@@ -82,10 +82,10 @@ static void made(size_t count, size_t room, unsigned levels) {
             shown[left++] = pixels[i];
     }
     want = plain_table(pixels, count, plain, room);
-    check(pix_raw_quantize(pixels, count, work, count, entries, room, &got) == PIX_OK, "a table is made");
+    check(pix_raw_quantize_refined(pixels, count, 0, work, count, entries, room, &got) == PIX_OK, "a table is made");
     check(got == want && !memcmp(entries, plain, want * sizeof *plain), "a table that is made is another one");
     want = plain_table(shown, left, plain, room);
-    check(pix_raw_quantize_alpha(with_alpha, count, 128, work, count, entries, room, &got) == PIX_OK, "with an alpha");
+    check(pix_raw_quantize_refined_alpha(with_alpha, count, 128, 0, work, count, entries, room, &got) == PIX_OK, "with an alpha");
     check(got == want && !memcmp(entries, plain, want * sizeof *plain), "a table of pixels with an alpha is another one");
 }
 
@@ -147,11 +147,12 @@ static void refined(size_t count, size_t room, unsigned levels) {
 }
 
 static void refined_refused(void) {
+    static pix_srgb8 many[257];
     pix_srgb8 entries[8] = {{1, 2, 3}, {4, 5, 6}}, some[8] = {{7, 8, 9}, {1, 1, 1}}, room[8] = {{5, 5, 5}};
     pix_srgba8 with[2] = {{1, 2, 3, 4}, {5, 6, 7, 8}};
     size_t count = 77;
     check(pix_quantize_refined(some, 2, 1, room, entries, 0, &count) == PIX_BAD_TABLE, "a refined table of no entry");
-    check(pix_quantize_refined(some, 2, 1, room, entries, 257, &count) == PIX_BAD_TABLE, "a refined table of 257 entries");
+    check(pix_quantize_refined(some, 2, 1, room, many, 257, &count) == PIX_BAD_TABLE, "a refined table of 257 entries");
     check(pix_quantize_refined(some, SIZE_MAX / 2, 1, room, entries, 2, &count) == PIX_BAD_LENGTH, "too many pixels to refine");
     check(pix_quantize_refined(some, 2, 1, NULL, entries, 2, &count) == PIX_NULL, "no work memory to refine in");
     check(pix_quantize_refined(some, 2, 1, room, entries, 2, NULL) == PIX_NULL, "no count of a refined table");
@@ -188,10 +189,12 @@ static void diffused(size_t len, size_t width, size_t count, pix_diffusion how) 
     }
     check(pix_diffuse_indexed_work(width) <= PIXELS, "work memory of the test");
     plain_diffuse(entries, len, with_alpha, count, width, 0, 0, full, unpacked);
-    check(pix_raw_diffuse_indexed(entries, len, pixels, count, width, work, 4 * width, indices, count) == PIX_OK, "at full strength");
+    check(pix_raw_diffuse_indexed_by(entries, len, pixels, count, width, 16, 0, work, 4 * width, indices, count) == PIX_OK,
+          "at full strength");
     check(!memcmp(indices, unpacked, count), "an index at full strength is another one");
     plain_diffuse(entries, len, with_alpha, count, width, 150, 99, full, unpacked);
-    check(pix_raw_diffuse_indexed_alpha(entries, len, with_alpha, count, width, 150, 99, work, 4 * width, indices, count) == PIX_OK,
+    check(pix_raw_diffuse_indexed_by_alpha(entries, len, with_alpha, count, width, 150, 99, 16, 0, work, 4 * width, indices, count)
+              == PIX_OK,
           "at full strength, with an alpha");
     check(!memcmp(indices, unpacked, count), "an index at full strength with an alpha is another one");
     plain_diffuse(entries, len, with_alpha, whole, width, 0, 0, usual, unpacked);
@@ -257,12 +260,13 @@ static void packed(uint32_t bits, size_t count) {
 }
 
 static void made_refused(void) {
+    static pix_srgb8 many[257];
     pix_srgb8 entries[8] = {{1, 2, 3}, {4, 5, 6}}, some[8] = {{7, 8, 9}, {1, 1, 1}}, room[8] = {{5, 5, 5}};
     uint8_t index[2] = {9, 9};
     size_t count = 77;
     pix_table table = pix_table_of(entries, 2);
     check(pix_quantize(some, 2, room, entries, 0, &count) == PIX_BAD_TABLE, "a table of no entry");
-    check(pix_quantize(some, 2, room, entries, 257, &count) == PIX_BAD_TABLE, "a table of 257 entries");
+    check(pix_quantize(some, 2, room, many, 257, &count) == PIX_BAD_TABLE, "a table of 257 entries");
     check(pix_quantize(some, SIZE_MAX / 2, room, entries, 2, &count) == PIX_BAD_LENGTH, "a table of too many pixels");
     check(pix_quantize(some, 2, NULL, entries, 2, &count) == PIX_NULL, "no work memory");
     check(pix_quantize(some, 2, room, NULL, 2, &count) == PIX_NULL, "no entries");
@@ -270,7 +274,7 @@ static void made_refused(void) {
     check(pix_quantize(some, 2, some, entries, 2, &count) == PIX_OVERLAP, "work memory in the pixels");
     check(pix_quantize(some, 2, room, room, 2, &count) == PIX_OVERLAP, "entries in the work memory");
     check(pix_quantize(some, 2, room, some, 2, &count) == PIX_OVERLAP, "entries in the pixels");
-    check(pix_raw_quantize(some, 2, room, 1, entries, 2, &count) == PIX_BAD_LENGTH, "too little work memory");
+    check(pix_raw_quantize_refined(some, 2, 0, room, 1, entries, 2, &count) == PIX_BAD_LENGTH, "too little work memory");
     check(count == 77, "what is refused makes no table");
     check(pix_quantize(NULL, 0, NULL, entries, 2, &count) == PIX_OK && count == 0, "a table of no pixels");
     check(pix_diffuse_indexed(pix_table_of(entries, 0), some, 2, 2, room, index) == PIX_BAD_TABLE, "no entry to diffuse to");
@@ -284,9 +288,9 @@ static void made_refused(void) {
     check(pix_diffuse_indexed(table, some, 2, 1, some, index) == PIX_OVERLAP, "work memory in the pixels to diffuse");
     check(pix_diffuse_indexed(table, some, 2, 1, entries, index) == PIX_OVERLAP, "work memory in the table");
     check(pix_diffuse_indexed(table, some, 2, 1, room, &room[1].g) == PIX_OVERLAP, "indices in the work memory");
-    check(pix_raw_diffuse_indexed(entries, 2, some, 2, 2, room, 7, index, 2) == PIX_BAD_LENGTH, "too little work memory for rows");
-    check(pix_raw_diffuse_indexed(entries, 2, some, 2, 0, room, 0, index, 2) == PIX_BAD_LENGTH, "no row");
-    check(pix_raw_diffuse_indexed(entries, 2, some, 2, 2, room, 8, index, 1) == PIX_BAD_LENGTH, "fewer indices than pixels to diffuse");
+    check(pix_raw_diffuse_indexed_by(entries, 2, some, 2, 2, 16, 0, room, 7, index, 2) == PIX_BAD_LENGTH, "too little work memory for rows");
+    check(pix_raw_diffuse_indexed_by(entries, 2, some, 2, 0, 16, 0, room, 0, index, 2) == PIX_BAD_LENGTH, "no row");
+    check(pix_raw_diffuse_indexed_by(entries, 2, some, 2, 2, 16, 0, room, 8, index, 1) == PIX_BAD_LENGTH, "fewer indices than pixels to diffuse");
     check(index[0] == 9 && index[1] == 9 && entries[0].r == 1 && some[1].g == 1 && room[0].r == 5, "what is refused stays");
 }
 
@@ -371,7 +375,16 @@ static void cleared(void) {
     check(pix_map_indexed_alpha(none, NULL, 3, 128, 5, index) == PIX_NULL, "no clear picture");
     check(pix_diffuse_indexed_alpha(none, clear, 3, 0, 128, 5, room, index) == PIX_BAD_LENGTH, "clear rows of no pixel");
     check(pix_diffuse_indexed_alpha(none, clear, 3, 3, 128, 5, NULL, index) == PIX_NULL, "no work memory for a clear picture");
+    check(pix_raw_diffuse_indexed_by_alpha(entries, 0, clear, 3, 3, 128, 5, 17, 0, room, 12, index, 3) == PIX_BAD_STRENGTH,
+          "a strength for a clear picture in the archive");
+    check(pix_raw_diffuse_indexed_by_alpha(entries, 0, clear, 3, 3, 128, 5, 16, 0, room, 11, index, 3) == PIX_BAD_LENGTH,
+          "work memory for a clear picture in the archive");
+    check(pix_raw_diffuse_indexed_by_alpha(entries, 0, clear, 3, 3, 127, 5, 16, 0, room, 12, index, 3) == PIX_BAD_TABLE,
+          "a pixel that counts in the archive");
     check(index[0] == 6 && index[2] == 6 && clear[1].g == 5, "what is refused stays as it was");
+    check(pix_raw_diffuse_indexed_by_alpha(entries, 0, clear, 3, 3, 128, 4, 16, 1, room, 12, index, 3) == PIX_OK,
+          "a clear picture in the archive");
+    check(index[0] == 4 && index[1] == 4 && index[2] == 4 && index[3] == 9, "indices of a clear picture in the archive");
 }
 
 /* Two pictures, one after the other in one table: one of all colors, and one of colors near to each other. */
@@ -451,6 +464,7 @@ static void refused(void) {
     check(pix_map_indexed(pix_table_of(entries, 1), NULL, 0, NULL) == PIX_OK, "pixels of no number");
     check(pix_look_up(pix_table_of(entries, 1), &past, 1, &pixel) == PIX_BAD_INDEX, "an index past the end");
     check(pix_look_up(pix_table_of(NULL, 0), NULL, 0, NULL) == PIX_OK, "no index looked up");
+    check(pix_look_up(pix_table_of(NULL, 2), NULL, 0, NULL) == PIX_NULL, "no table for no index");
     check(pix_look_up(pix_table_of(entries, 2), &past, 1, &entries[1]) == PIX_OVERLAP, "pixels in the table");
     check(index == 9 && pixel.r == 1 && pixel.g == 2 && pixel.b == 3 && entries[0].b == 3, "what is refused changes nothing");
     for (i = 0; i < sizeof bad / sizeof *bad; i++) {

@@ -54,7 +54,7 @@ static void compare_number(const char *what, size_t got, size_t wanted) {
     static void run##S(PIXEL *pixels, size_t length, uint32_t width, uint32_t height, uint32_t stride,                 \
                        const pix_command##S *list, size_t count, pix_status status, size_t done) {                     \
         size_t at = 7;                                                                                                 \
-        uint32_t got = pix_raw_run##S(pixels, length, width, height, stride, list, count, &at);                        \
+        uint32_t got = pix_raw_run_window##S(pixels, length, 0, 0, width, height, stride, list, count, &at);           \
         compare_number("the status", got, status);                                                                     \
         compare_number("done", at, done);                                                                              \
     }

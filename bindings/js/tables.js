@@ -40,11 +40,8 @@ const sizeOf = (format) => ({ [FORMATS.SRGB8]: 3, [FORMATS.SRGBA8]: 4 })[formatO
     ?? bad(`a table goes with pixels of SRGB8 or SRGBA8, and not of ${shown(format)}: convert(..) makes them`);
 const byte = (value, what) => whole(value, what, 255);
 
-// A table of colors. It may be empty if the pixels have an alpha: all of them may be below it.
-function tableOf(table, size, least = 1) {
-    const entries = read(table, size, 'a table of colors');
-    return entries.count < least || entries.count > ENTRIES ? refuse('BAD_TABLE') : entries;
-}
+// A table of colors. The call decides whether it has as many as a table has.
+const tableOf = (table, size) => read(table, size, 'a table of colors');
 
 // The array for `count` indices, which is made if none is given.
 function indicesOf(indices, count) {
@@ -55,7 +52,7 @@ function indicesOf(indices, count) {
 
 // How errors are diffused, and the work memory of a row of colors of a size.
 function diffusion({ strength = STRENGTH, serpentine = true }, width, { count }, size) {
-    if (!Number.isInteger(strength) || strength < 0 || strength > 16) refuse('BAD_STRENGTH');
+    if (!Number.isInteger(strength) || strength < 0 || strength > 255) refuse('BAD_STRENGTH');
     whole(width, 'width', 2147483647, 1);
     if (count % width) throw new RangeError(`${count} pixels are no whole rows of ${width}`);
     const across = Math.min(width, Math.max(count, 1));
@@ -88,7 +85,7 @@ export function mapIndexed(table, pixels, { indices, format = 'SRGB8', alpha = 0
     const size = sizeOf(format), from = read(pixels, size, 'the array of pixels'), target = indicesOf(indices, from.count);
     if (size === 3) this.callRaw('map_indexed', tableOf(table, 3), from, target);
     else {
-        this.callRaw('map_indexed_alpha', tableOf(table, 3, 0), from, byte(alpha, 'alpha'), byte(transparentIndex, 'transparentIndex'),
+        this.callRaw('map_indexed_alpha', tableOf(table, 3), from, byte(alpha, 'alpha'), byte(transparentIndex, 'transparentIndex'),
             target);
     }
     return target.array;
@@ -98,9 +95,8 @@ export function mapIndexed(table, pixels, { indices, format = 'SRGB8', alpha = 0
 export function diffuseIndexed(table, pixels, width, { indices, format = 'SRGB8', alpha = 0, transparentIndex = 0, ...how } = {}) {
     const size = sizeOf(format), from = read(pixels, size, 'the array of pixels'), target = indicesOf(indices, from.count);
     const { across, strength, rows, work } = diffusion(how, width, from, 3);
-    const entries = tableOf(table, 3, size === 4 ? 0 : 1);
+    const entries = tableOf(table, 3);
     if (size === 3) this.callRaw('diffuse_indexed_by', entries, from, BigInt(across), strength, rows, work, target);
-    else if (!entries.count) return this.mapIndexed(table, pixels, { indices: target.array, format, alpha, transparentIndex });
     else {
         this.callRaw('diffuse_indexed_by_alpha', entries, from, BigInt(across), byte(alpha, 'alpha'),
             byte(transparentIndex, 'transparentIndex'), strength, rows, work, target);
@@ -129,9 +125,8 @@ export function diffuseIndexedRgba(table, pixels, width, { indices, ...how } = {
 // Sets the color of each pixel in a table, one after the other. Returns the table afterwards and the indices.
 export function indexPixels(table, pixels, { length = ENTRIES, threshold = [0, 0, 0] } = {}) {
     const start = read(table, 3, 'a table of colors'), room = whole(length, 'length', ENTRIES, 1);
-    if (start.count > room) refuse('BAD_LENGTH');
     const entries = new Uint8Array(3 * room), used = BigUint64Array.of(BigInt(start.count)), from = read(pixels, 3, 'the array of pixels');
-    entries.set(table);
+    entries.set(bytesOf(table).subarray(0, entries.length));
     const target = indicesOf(undefined, from.count), apart = Uint8Array.from(threshold, (value) => byte(value, 'threshold'));
     if (apart.length !== 3) bad('threshold has three numbers: write [8, 8, 8]');
     this.callRaw('index_pixels', written(entries, 3, 'a table'), alone(used, true), alone(apart), from, target);

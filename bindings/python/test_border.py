@@ -152,7 +152,7 @@ class ChangingMemory(unittest.TestCase):
             lambda: pix.look_up(table, bytes(3)),
             lambda: pix.index_pixels(table, pixels, 3),
         ):
-            self.assertEqual(self.rooms(use), [(768, table.ljust(768, b"\0"))])
+            self.assertEqual(self.rooms(use), [(771, table.ljust(771, b"\0"))])
         self.assertEqual(pix.look_up(bytes(897) + b"\1\2\3", b"\0"), bytes(3))
         table, pixels = bytes(range(1, 9)), bytes(12)
         for use in (
@@ -160,7 +160,7 @@ class ChangingMemory(unittest.TestCase):
             lambda: pix.diffuse_indexed_rgba(table, pixels, 3),
             lambda: pix.look_up_rgba(table, bytes(3)),
         ):
-            self.assertEqual(self.rooms(use), [(1024, table.ljust(1024, b"\0"))])
+            self.assertEqual(self.rooms(use), [(1028, table.ljust(1028, b"\0"))])
         self.assertEqual(pix.look_up_rgba(bytes(1196) + b"\1\2\3\4", b"\0"), bytes(4))
 
     def test_counts_have_room_for_each_index(self):

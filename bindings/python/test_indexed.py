@@ -383,6 +383,18 @@ class Tables(unittest.TestCase):
                 found = pix.diffuse_indexed_rgba(other, opaque, 30, None, *how)
                 self.assertEqual(found, pix.diffuse_indexed(table, plain, 30, strength=how[0], serpentine=how[1]))
 
+    def test_a_last_row_that_is_short(self):
+        """Rows that all go one way may end in a part of one, as in C."""
+        chance = random.Random(4)
+        table, pixels = joined([(0, 0, 0), (255, 90, 30), (200, 255, 255)]), bytes(chance.randrange(256) for _ in range(3 * 12))
+        whole = pix.diffuse_indexed(table, pixels, 4, serpentine=False)
+        for count in range(12):
+            self.assertEqual(pix.diffuse_indexed(table, pixels[: 3 * count], 4, serpentine=False), whole[:count])
+        one_row = pix.diffuse_indexed(table, pixels, 12, serpentine=False)
+        self.assertEqual(pix.diffuse_indexed(table, pixels, 10**20, serpentine=False), one_row)
+        self.refused(pix.Status.BAD_LENGTH, pix.diffuse_indexed, table, pixels, 10**20)
+        self.refused(pix.Status.BAD_LENGTH, pix.diffuse_indexed, table, pixels, -4)
+
     def test_tables_of_clear_pictures(self):
         clear = joined((9, 9, 9, i) for i in range(20))
         for make in (lambda *words: pix.map_indexed(*words), lambda table, pixels, *more: pix.diffuse_indexed(table, pixels, 4, *more)):
@@ -478,8 +490,8 @@ class Tables(unittest.TestCase):
         self.refused(status.BAD_LENGTH, pix.look_up_rgba, b"abcd", b"\0", bytearray(3))
         # After the table, and before the lengths.
         for strength in (-1, 17, 256 + 16):
-            self.refused(status.BAD_STRENGTH, pix.diffuse_indexed, b"abc", b"abcd", 0, strength=strength)
-            self.refused(status.BAD_STRENGTH, pix.diffuse_indexed_rgba, b"abcd", b"abc", 0, kept, strength)
+            self.refused(status.BAD_STRENGTH, pix.diffuse_indexed, b"abc", b"abc", 0, strength=strength)
+            self.refused(status.BAD_STRENGTH, pix.diffuse_indexed_rgba, b"abcd", b"abcd", 0, kept, strength)
             self.refused(status.BAD_TABLE, pix.diffuse_indexed, b"", b"abc", 1, strength=strength)
         self.assertEqual(kept, b"\x09\x09")
         for wrong in (-1, 256):

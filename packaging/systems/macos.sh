@@ -33,7 +33,7 @@ links() {
     printf '%s\n' '--- !tapi-tbd' 'tbd-version: 4' 'targets: [ arm64-macos ]' "install-name: '/usr/lib/libSystem.B.dylib'" 'exports:' '  - targets: [ arm64-macos ]' \
         '    symbols: [ _memset, _memcpy, _memmove, _bzero, dyld_stub_binder ]' '...' >"$work/libSystem.tbd"
     calls | sed 's/^/_/' >"$work/exports"
-    "$linker" -arch arm64 -platform_version macos 11.0 11.0 -dylib -install_name @rpath/libpix.3.dylib -exported_symbols_list "$work/exports" \
+    "$linker" -arch arm64 -platform_version macos 11.0 11.0 -dylib -install_name @rpath/libpix.4.dylib -exported_symbols_list "$work/exports" \
         "$work/macos.o" "$work/libSystem.tbd" -o "$work/libpix.dylib" && llvm-nm --extern-only --defined-only "$work/libpix.dylib" | awk '{ print substr($NF, 2) }' | sort >"$work/shown" \
         && calls | cmp - "$work/shown"
 }

@@ -8,7 +8,6 @@
 /* A call that the host sees. */
 #define SHOWN_(name) extern __typeof__(name) name __attribute__((export_name(#name)))
 SHOWN_(pix_layout);
-SHOWN_(pix_raw_run);
 SHOWN_(pix_raw_run_window);
 SHOWN_(pix_raw_convert);
 SHOWN_(pix_raw_convert_bitmap);

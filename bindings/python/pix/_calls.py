@@ -10,9 +10,11 @@ from pix._memory import Memory, Span, refuse_gone
 from pix._turns import turns
 from pix._values import PixError, Status
 
-# The most colors that a table has, and the memory that they take, by the bytes of each.
+# The most colors that a table has. One more stands for any longer table, since the library refuses them alike.
 ENTRIES = 256
-_TABLES = {size: ctypes.c_ubyte * (size * ENTRIES) for size in (3, 4)}
+LONGER = ENTRIES + 1
+# The memory that they take, by the bytes of each.
+_TABLES = {size: ctypes.c_ubyte * (size * LONGER) for size in (3, 4)}
 
 # Copies bytes, and keeps the interpreter's lock or releases it.
 _MOVES = [kind(None).memmove for kind in (ctypes.PyDLL, ctypes.CDLL)]
@@ -67,10 +69,11 @@ def move_rows(
 def padded(table: Memory, length: int, size: int = 3) -> Copy:
     """A copy of a table, with room for an entry of every index from 0 to 255.
 
-    A call is passed a length of `length` bytes. So an index that changes during the call, after the
-    library has tested it, gives a wrong color, but reads no other memory.
+    A call is passed a length of `length` bytes, and at most that of one color too many. So an index
+    that changes during the call, after the library has tested it, gives a wrong color, but reads no
+    other memory.
     """
-    return Copy(table, _TABLES[size](), length)
+    return Copy(table, _TABLES[size](), min(length, size * LONGER))
 
 
 def copied_rows(memory: Memory, wide: int, apart: int, rows: int, first: int = 0) -> bytearray:

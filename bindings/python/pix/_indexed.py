@@ -5,7 +5,7 @@ from __future__ import annotations
 import ctypes
 from typing import Any, List, Optional, SupportsIndex, Tuple
 
-from pix._calls import ENTRIES, Call, padded
+from pix._calls import ENTRIES, LONGER, Call, padded
 from pix._memory import Buffer, Memory
 from pix._numbers import index
 from pix._values import Format, PixError, Status
@@ -69,40 +69,33 @@ def _pixel_size(format: Any) -> int:
 
 
 def _table(buffer: Any, size: int) -> Memory:
-    """The memory of a table of colors. It may be empty if the pixels have an alpha: all of them may be below it."""
+    """The memory of a table of colors of so many bytes each."""
     memory = _read(buffer)
-    if not (size == 3) <= _count(memory, 3) <= ENTRIES:
-        raise PixError(Status.BAD_TABLE)
+    _count(memory, size)
     return memory
 
 
-def _table_rgba(buffer: Any) -> Memory:
-    """The memory of a table of colors with an alpha."""
-    memory = _read(buffer)
-    if not 0 < _count(memory, 4) <= ENTRIES:
-        raise PixError(Status.BAD_TABLE)
-    return memory
+def _room(length: SupportsIndex) -> int:
+    """The room of a table as it is passed: that of one color too many stands for any more, and none for less."""
+    return min(max(index(length), 0), LONGER)
 
 
 def _indices(indices: Any, count: int, *read: Memory) -> Tuple[Any, Memory]:
     """The buffer for `count` indices, which is made if there is none, and its memory."""
     if indices is None:
         indices = bytearray(count)
-    target = _written(indices, *read)
-    if target.length != count:
-        raise PixError(Status.BAD_LENGTH)
-    return indices, target
+    return indices, _written(indices, *read)
 
 
-def _across(strength: int, width: int, pixels: Memory, size: int) -> int:
-    """The width of the rows in which errors are passed on. All rows have to be whole; without pixels
-    any width will do."""
-    if not 0 <= strength <= 16:
-        raise PixError(Status.BAD_STRENGTH)
-    count = _count(pixels, size)
-    if width < 1 or count % width:
-        raise PixError(Status.BAD_LENGTH)
-    return min(width, count) or 1
+def _share(strength: SupportsIndex) -> int:
+    """The strength as it is passed, in a byte: 255 stands for any other that is none."""
+    taken = index(strength)
+    return taken if 0 <= taken < 256 else 255
+
+
+def _across(width: int, count: int) -> int:
+    """The width of rows as it is passed: rows that are longer than all pixels are alike, whatever their width is."""
+    return min(max(width, 0), count + 1)
 
 
 def map_indexed(
@@ -124,7 +117,7 @@ def map_indexed(
     """
     size = _pixel_size(format)
     alpha, transparent_index = _byte(alpha, "alpha"), _byte(transparent_index, "index")
-    entries, source = _table(table, size), _read(pixels)
+    entries, source = _table(table, 3), _read(pixels)
     count = _count(source, size)
     indices, target = _indices(indices, count, entries, source)
     if size == 3:
@@ -156,11 +149,9 @@ def quantize(
     The table is empty if no pixel counts. Raises PixError if `length` is not from 1 to 256, or the pixels don't fit.
     """
     size = _pixel_size(format)
-    alpha, rounds, most = _byte(alpha, "alpha"), _byte(rounds, "number of rounds"), index(length)
+    alpha, rounds, most = _byte(alpha, "alpha"), _byte(rounds, "number of rounds"), _room(length)
     source = _read(pixels)
     count = _count(source, size)
-    if not 0 < most <= ENTRIES:
-        raise PixError(Status.BAD_TABLE)
     entries, made = bytearray(3 * most), ctypes.c_size_t()
     target, room = Memory(entries), Memory(bytearray(3 * count))
     own = room.address, count, target.address, most, made
@@ -190,18 +181,16 @@ def diffuse_indexed(
 
     `strength` is how many sixteenths of the errors are passed on: 12 unless it says another number. 16 are all of them, and with 0
     each pixel has the nearest entry. With `serpentine`, which is the default, every other row, from the second on, goes from right
-    to left, and the shares are mirrored there.
+    to left, and the shares are mirrored there. Rows are whole then; if all go one way, the last one may be short.
 
     Raises PixError if the table, the strength, the width or the lengths don't fit, and leaves `indices` as they were.
     """
-    size, share, across = _pixel_size(format), index(strength), index(width)
+    size, share, across = _pixel_size(format), _share(strength), index(width)
     alpha, transparent_index, back = _byte(alpha, "alpha"), _byte(transparent_index, "index"), int(bool(serpentine))
-    entries, source = _table(table, size), _read(pixels)
-    across, count = _across(share, across, source, size), _count(source, size)
+    entries, source = _table(table, 3), _read(pixels)
+    count = _count(source, size)
+    across = _across(across, count)
     indices, target = _indices(indices, count, entries, source)
-    if not entries.length:
-        _map_alpha(count, entries, source, alpha, transparent_index, target)
-        return indices
     room = Memory(bytearray(3 * 4 * across))
     how = share, back, room.address, 4 * across
     if size == 3:
@@ -223,11 +212,9 @@ def quantize_rgba(pixels: Buffer, length: SupportsIndex = 256, rounds: SupportsI
 
     Raises PixError if `length` is not from 1 to 256, or the pixels don't fit.
     """
-    rounds, most = _byte(rounds, "number of rounds"), index(length)
+    rounds, most = _byte(rounds, "number of rounds"), _room(length)
     source = _read(pixels)
     count = _count(source, 4)
-    if not 0 < most <= ENTRIES:
-        raise PixError(Status.BAD_TABLE)
     entries, made = bytearray(4 * most), ctypes.c_size_t()
     target, room = Memory(entries), Memory(bytearray(4 * count))
     _quantize_rgba(count * (1 + rounds), source, rounds, room.address, count, target.address, most, made)
@@ -244,7 +231,7 @@ def map_indexed_rgba(table: Buffer, pixels: Buffer, indices: Any = None) -> Any:
 
     Raises PixError if the table or the lengths don't fit, and leaves `indices` as they were.
     """
-    entries, source = _table_rgba(table), _read(pixels)
+    entries, source = _table(table, 4), _read(pixels)
     count = _count(source, 4)
     indices, target = _indices(indices, count, entries, source)
     _map_rgba(count, entries, source, target)
@@ -266,9 +253,10 @@ def diffuse_indexed_rgba(
 
     Raises PixError if the table, the strength, the width or the lengths don't fit, and leaves `indices` as they were.
     """
-    share, across, back = index(strength), index(width), int(bool(serpentine))
-    entries, source = _table_rgba(table), _read(pixels)
-    across, count = _across(share, across, source, 4), _count(source, 4)
+    share, across, back = _share(strength), index(width), int(bool(serpentine))
+    entries, source = _table(table, 4), _read(pixels)
+    count = _count(source, 4)
+    across = _across(across, count)
     indices, target = _indices(indices, count, entries, source)
     room = Memory(bytearray(4 * 4 * across))
     _diffuse_rgba(count, entries, source, across, share, back, room.address, 4 * across, target)
@@ -294,13 +282,9 @@ def index_pixels(
     limits = bytes([_byte(channel, "threshold") for channel in threshold])
     if len(limits) != 3:
         raise ValueError("a threshold has three numbers")
-    most = index(length)
+    most = _room(length)
     entries, source = _read(table), _read(pixels)
     used, count = ctypes.c_size_t(_count(entries, 3)), _count(source, 3)
-    if not 0 < most <= ENTRIES:
-        raise PixError(Status.BAD_TABLE)
-    if used.value > most:
-        raise PixError(Status.BAD_LENGTH)
     made, indices = padded(entries, 3 * most), bytearray(count)
     near, written = Memory(limits), Memory(indices)
     # Each entry of the table may be a candidate for each pixel.
@@ -323,14 +307,12 @@ def look_up_rgba(table: Buffer, indices: Buffer, pixels: Any = None) -> Any:
 
 def _looked_up(call: Call, size: int, table: Buffer, indices: Buffer, pixels: Any) -> Any:
     """Writes the entry for each index."""
-    entries, source = _read(table), _read(indices)
-    entry_count = min(_count(entries, size), ENTRIES)
+    entries, source = _table(table, size), _read(indices)
     if pixels is None:
         pixels = bytearray(size * source.length)
     target = _written(pixels, entries, source)
-    if _count(target, size) != source.length:
-        raise PixError(Status.BAD_LENGTH)
-    call(source.length, padded(entries, size * entry_count, size), source, target)
+    _count(target, size)
+    call(source.length, entries, source, target)
     return pixels
 
 

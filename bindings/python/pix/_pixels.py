@@ -86,7 +86,7 @@ def kind_of(type: Any) -> PixelType:
 
 
 # The version of the binary interface, and the fields with offsets that the library returns, in its order.
-ABI_VERSION = 3
+ABI_VERSION = 4
 REGION = "x y width height"
 COMMAND = "kind op to from_ color pixels pixel_count mattes matte_count width height stride mask mask_width mask_height mask_stride alpha"
 

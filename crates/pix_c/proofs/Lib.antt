@@ -1,1 +1,2 @@
--- There are no lemmas. Answers of a function are found by its path.
+-- The files of lemmas. Answers of a function are found by its path.
+pub mod Transparent

@@ -35,12 +35,6 @@ map_indexed_alpha_status len alpha pixels indices =
 abbrev pub quantize_status : (len pixels work : ℕ) → ℕ
 quantize_status len pixels work = if is_table len then (if nat_le pixels work then 0 else 7) else 11
 
--- the status of error diffusion: 11 without a table; 7 where a row has no pixel, work memory has
--- not four rows of colors, or there are not as many indices as pixels; and else 0
-abbrev pub diffuse_status : (len pixels width work indices : ℕ) → ℕ
-diffuse_status len pixels width work indices =
-    if is_table len then (if nat_lt 0 width && nat_eq work (4 * width) && nat_eq indices pixels then 0 else 7) else 11
-
 -- the scan order of a flag: serpentine where it is not 0
 abbrev pub scan_of : ℕ → ScanOrder
 scan_of serpentine = if nat_eq serpentine 0 then LeftToRight else Serpentine
@@ -60,6 +54,14 @@ are_rows pixels width scan work indices = are_whole scan pixels width && nat_lt 
 abbrev pub diffuse_by_status : (len pixels width strength : ℕ) → ScanOrder → (work indices : ℕ) → ℕ
 diffuse_by_status len pixels width strength scan work indices =
     if is_table len then (if nat_le strength 16 then (if are_rows pixels width scan work indices then 0 else 7) else 15) else 11
+
+-- the status of error diffusion of pixels with an alpha: the same, but a table without an entry serves
+-- those whose alphas are all below one
+abbrev pub diffuse_by_alpha_status : (len alpha : ℕ) (pixels : List (List ℕ)) (width strength : ℕ) → ScanOrder → (work indices : ℕ) → ℕ
+diffuse_by_alpha_status len alpha pixels width strength scan work indices =
+    if nat_eq len 0 then (if nat_le strength 16 then (if are_rows (length pixels) width scan work indices
+    then (if all_below alpha (map alpha_of pixels) then 0 else 11) else 7) else 15)
+    else diffuse_by_status len (length pixels) width strength scan work indices
 
 -- the status of an indexing before its colors are set: 11 without room for a table; 7 where more
 -- entries are used than there is room for, or there are not as many indices as pixels; and else 0

@@ -1,19 +1,21 @@
 //! Images of indices by error diffusion.
-ghost use Rattle.std.specs.Prelude.{◌≡◌, ◌≢◌, length, map};
+ghost use Rattle.std.specs.Prelude.{◌≡◌, ◌≢◌, ℕ, List, length, map, nat_le};
 ghost use Rattle.pix_table.specs.Nearest.{numbers};
 ghost use Rattle.pix_table.specs.Seen.{rgba_numbers};
-ghost use Rattle.pix_table.specs.Diffusion.{AreDiffused, AreDiffusedBy, AreShownAround};
-ghost use Rattle.pix_c.specs.Table.{are_rows, diffuse_status, diffuse_by_status, scan_of};
+ghost use Rattle.pix_table.specs.Diffusion.{AreDiffusedBy, AreShownAround};
+ghost use Rattle.pix_c.specs.Table.{are_rows, diffuse_by_status, diffuse_by_alpha_status, scan_of};
 
 use crate::status::{BAD_LENGTH, DONE};
-use crate::table::BAD_TABLE;
-use pix_table::{Color, Diffusion, RgbaColor, ScanOrder, TablePixel, diffuse_indexed};
+use crate::table::{BAD_TABLE, is_table};
+use pix_table::{
+    Color, Diffusion, RgbaColor, ScanOrder, TablePixel, diffuse_indexed, map_transparent,
+};
 
 /// A strength of error diffusion is above 16.
 pub const BAD_STRENGTH: u32 = 15;
 
 /// The strength that hands on whole errors.
-pub(crate) const WHOLE: u8 = 16;
+const WHOLE: u8 = 16;
 
 /// Writes for each pixel, in rows of `width`, its index by error diffusion. The index is that of
 /// the entry that is nearest to the pixel plus its share of the errors before it. An error is what
@@ -22,73 +24,13 @@ pub(crate) const WHOLE: u8 = 16;
 /// bound either way in each channel, so no color that is looked up is further from its pixel. The
 /// bound is half of the widest step between neighboring levels of the table, and at least 24.
 ///
-/// Returns 0 when they are written. Else nothing is written. The status is then 11 where there is
-/// no entry or more than 256. Otherwise it is 7, which has three causes: a row has no pixel, `work`
-/// has not just four rows of colors, or there are not as many indices as pixels.
-#[unsafe(no_mangle)]
-pub extern "C" fn pix_raw_diffuse_indexed(
-    entries: &[Color],
-    pixels: &[Color],
-    width: usize,
-    work: &mut [Color],
-    indices: &mut [u8],
-) -> u32
-    ensures status { result ≡ diffuse_status (length entries.now) (length pixels.now) width
-        (length work.old) (length indices.old) }
-    ensures refused { result ≢ 0 → (work.new ≡ work.old) × (indices.new ≡ indices.old) }
-    ensures done { result ≡ 0 → AreDiffused (map numbers entries.now) 0 0 width
-        (map numbers pixels.now) indices.new }
-    ensures near { result ≡ 0 → AreShownAround (map numbers entries.now) 0 0
-        (map numbers pixels.now) indices.new }
-{
-    let how = Diffusion {
-        width,
-        alpha: 0,
-        transparent_index: 0,
-        strength: WHOLE,
-        scan: ScanOrder::LeftToRight,
-    };
-    diffuse(entries, pixels, how, work, indices)
-}
-
-/// Does what [`pix_raw_diffuse_indexed`] does, on pixels with an alpha. A pixel whose alpha is
-/// below `alpha` gets the index `transparent_index`, and hands on no error.
-#[unsafe(no_mangle)]
-pub extern "C" fn pix_raw_diffuse_indexed_alpha(
-    entries: &[Color],
-    pixels: &[RgbaColor],
-    width: usize,
-    alpha: u8,
-    transparent_index: u8,
-    work: &mut [Color],
-    indices: &mut [u8],
-) -> u32
-    ensures status { result ≡ diffuse_status (length entries.now) (length pixels.now) width
-        (length work.old) (length indices.old) }
-    ensures refused { result ≢ 0 → (work.new ≡ work.old) × (indices.new ≡ indices.old) }
-    ensures done { result ≡ 0 → AreDiffused (map numbers entries.now) alpha transparent_index width
-        (map rgba_numbers pixels.now) indices.new }
-    ensures near { result ≡ 0 → AreShownAround (map numbers entries.now) alpha transparent_index
-        (map rgba_numbers pixels.now) indices.new }
-{
-    let how = Diffusion {
-        width,
-        alpha,
-        transparent_index,
-        strength: WHOLE,
-        scan: ScanOrder::LeftToRight,
-    };
-    diffuse(entries, pixels, how, work, indices)
-}
-
-/// Does what [`pix_raw_diffuse_indexed`] does with `strength` sixteenths of each error. Where
-/// `serpentine` is not 0, every second row goes from right to left, and the shares are mirrored
-/// in it.
+/// `strength` sixteenths of each error are handed on. Where `serpentine` is not 0, every second row
+/// goes from right to left, and the shares are mirrored in it.
 ///
 /// Returns 0 when all indices are written. Else nothing is written. The status is then 11 where
 /// there is no entry or more than 256, and otherwise 15, where the strength is above 16. Otherwise
-/// it is 7, where a length is wrong as for [`pix_raw_diffuse_indexed`], or where rows turn and the
-/// pixels are not whole rows.
+/// it is 7, which has four causes: a row has no pixel, `work` has not just four rows of colors,
+/// there are not as many indices as pixels, or rows turn and the pixels are not whole rows.
 #[unsafe(no_mangle)]
 pub extern "C" fn pix_raw_diffuse_indexed_by(
     entries: &[Color],
@@ -118,7 +60,9 @@ pub extern "C" fn pix_raw_diffuse_indexed_by(
 }
 
 /// Does what [`pix_raw_diffuse_indexed_by`] does, on pixels with an alpha. A pixel whose alpha is
-/// below `alpha` gets the index `transparent_index`, and hands on no error.
+/// below `alpha` gets the index `transparent_index`, and hands on no error. If all alphas are below
+/// `alpha`, a table without an entry serves too. Where it doesn't serve, the status is 11 after all
+/// others.
 #[unsafe(no_mangle)]
 pub extern "C" fn pix_raw_diffuse_indexed_by_alpha(
     entries: &[Color],
@@ -131,8 +75,9 @@ pub extern "C" fn pix_raw_diffuse_indexed_by_alpha(
     work: &mut [Color],
     indices: &mut [u8],
 ) -> u32
-    ensures status { result ≡ diffuse_by_status (length entries.now) (length pixels.now) width
-        strength (scan_of serpentine) (length work.old) (length indices.old) }
+    ensures status { result ≡ diffuse_by_alpha_status (length entries.now) alpha
+        (map rgba_numbers pixels.now) width strength (scan_of serpentine) (length work.old)
+        (length indices.old) }
     ensures refused { result ≢ 0 → (work.new ≡ work.old) × (indices.new ≡ indices.old) }
     ensures done { result ≡ 0 → AreDiffusedBy (scan_of serpentine) strength
         (map numbers entries.now) alpha transparent_index width (map rgba_numbers pixels.now)
@@ -147,7 +92,17 @@ pub extern "C" fn pix_raw_diffuse_indexed_by_alpha(
         strength,
         scan: scan_of(serpentine),
     };
+    if entries.is_empty() {
+        return diffuse_transparent(pixels, how, work.len(), indices);
+    }
     diffuse(entries, pixels, how, work, indices)
+}
+
+/// Returns whether errors may be handed on with such a strength, in sixteenths.
+pub(crate) fn is_strength(strength: u8) -> bool
+    ensures { result ≡ nat_le strength 16 }
+{
+    strength <= WHOLE
 }
 
 /// Returns the scan order of a flag: serpentine where it is not 0.
@@ -177,10 +132,10 @@ fn diffuse<P: TablePixel>(
     ensures near { result ≡ 0 → AreShownAround (map numbers entries.now) how.alpha
         how.transparent_index (map P.values pixels.now) indices.new }
 {
-    if entries.is_empty() || entries.len() > 256 {
+    if !is_table(entries.len()) {
         return BAD_TABLE;
     }
-    if how.strength > WHOLE {
+    if !is_strength(how.strength) {
         return BAD_STRENGTH;
     }
     if !are_rows(pixels.len(), how.width, how.scan, work.len(), indices.len()) {
@@ -188,6 +143,36 @@ fn diffuse<P: TablePixel>(
     }
     diffuse_indexed(entries, pixels, how, work, indices);
     DONE
+}
+
+/// Sets the indices of pixels that need no entry, since the alpha of each is below `how.alpha`.
+/// `work` is how many colors of work memory there are.
+fn diffuse_transparent(
+    pixels: &[RgbaColor],
+    how: Diffusion,
+    work: usize,
+    indices: &mut [u8],
+) -> u32
+    ensures status { result ≡ diffuse_by_alpha_status 0 how.alpha (map rgba_numbers pixels.now)
+        how.width how.strength how.scan work (length indices.old) }
+    ensures refused { result ≢ 0 → indices.new ≡ indices.old }
+    ensures done { result ≡ 0 → (entries : List (List ℕ)) → length entries ≡ 0
+        → AreDiffusedBy how.scan how.strength entries how.alpha how.transparent_index how.width
+        (map rgba_numbers pixels.now) indices.new }
+    ensures near { result ≡ 0 → (entries : List (List ℕ)) → AreShownAround entries how.alpha
+        how.transparent_index (map rgba_numbers pixels.now) indices.new }
+{
+    if !is_strength(how.strength) {
+        return BAD_STRENGTH;
+    }
+    if !are_rows(pixels.len(), how.width, how.scan, work, indices.len()) {
+        return BAD_LENGTH;
+    }
+    if map_transparent(pixels, how.alpha, how.transparent_index, indices) {
+        DONE
+    } else {
+        BAD_TABLE
+    }
 }
 
 /// Returns whether pixels are rows that can be scanned in an order, there are as many indices, and

@@ -8,9 +8,9 @@ ghost use Rattle.pix_c.specs.Table.{diffuse_by_status, look_up_status, quantize_
 ghost use Rattle.pix_c.specs.Table.{map_indexed_status};
 ghost use Rattle.pix_c.specs.Table.{scan_of};
 
-use crate::diffuse::{BAD_STRENGTH, WHOLE, are_rows, scan_of};
+use crate::diffuse::{BAD_STRENGTH, are_rows, is_strength, scan_of};
 use crate::status::{BAD_LENGTH, DONE};
-use crate::table::{BAD_INDEX, BAD_TABLE};
+use crate::table::{BAD_INDEX, BAD_TABLE, is_table};
 use pix_table::{
     RgbaColor, RgbaDiffusion, Seen, diffuse_indexed_rgba, look_up, map_indexed_rgba, quantize_rgba,
 };
@@ -44,7 +44,7 @@ pub extern "C" fn pix_raw_quantize_rgba(
         × IsQuantizedRgba rounds (length entries.old) (map rgba_numbers pixels.now)
         (map rgba_numbers (take made.new entries.new)) }
 {
-    if entries.is_empty() || entries.len() > 256 {
+    if !is_table(entries.len()) {
         return BAD_TABLE;
     }
     match quantize_rgba(pixels, rounds, work, entries) {
@@ -72,7 +72,7 @@ pub extern "C" fn pix_raw_map_indexed_rgba(
     ensures done { result ≡ 0 → AreSeenMatched (map rgba_numbers entries.now)
         (map rgba_numbers pixels.now) indices.new }
 {
-    if entries.is_empty() || entries.len() > 256 {
+    if !is_table(entries.len()) {
         return BAD_TABLE;
     }
     if indices.len() != pixels.len() {
@@ -132,10 +132,10 @@ pub extern "C" fn pix_raw_diffuse_indexed_rgba(
     ensures near { result ≡ 0 → AreSeenAround (map rgba_numbers entries.now)
         (map rgba_numbers pixels.now) indices.new }
 {
-    if entries.is_empty() || entries.len() > 256 {
+    if !is_table(entries.len()) {
         return BAD_TABLE;
     }
-    if strength > WHOLE {
+    if !is_strength(strength) {
         return BAD_STRENGTH;
     }
     let scan = scan_of(serpentine);

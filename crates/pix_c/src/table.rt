@@ -4,7 +4,6 @@ ghost use Rattle.std.specs.Prelude.{slice_index};
 ghost use Rattle.pix_table.specs.Nearest.{numbers, IsNearest, AreMatched};
 ghost use Rattle.pix_table.specs.LookUp.{AreLookedUp, AreCounted};
 ghost use Rattle.pix_table.specs.Seen.{rgba_numbers};
-ghost use Rattle.pix_table.specs.Quantization.{shown, IsQuantized};
 ghost use Rattle.pix_table.specs.Packing.{ArePacked, AreUnpacked};
 ghost use Rattle.pix_table.specs.Setting.{Always, IsSet};
 ghost use Rattle.pix_table.specs.Indexing.{AreSet, IsStopped};
@@ -12,13 +11,13 @@ ghost use Rattle.pix_table.specs.declared.color.Color.{Color};
 ghost use Rattle.pix_table.specs.declared.row.IndexDepth.{IndexDepth};
 ghost use Rattle.pix_c.specs.Table.{nearest_status, map_indexed_status, look_up_status};
 ghost use Rattle.pix_c.specs.Table.{map_indexed_alpha_status};
-ghost use Rattle.pix_c.specs.Table.{quantize_status, index_status};
+ghost use Rattle.pix_c.specs.Table.{index_status, is_table};
 ghost use Rattle.pix_c.specs.Table.{count_status, pack_status, unpack_status, depth_of, row_status};
 
 use crate::status::{BAD_LENGTH, DONE};
 use pix_table::{
     Color, IndexDepth, RgbaColor, RowFault, TablePixel, count_indices, index_pixels, look_up,
-    map_indexed, map_transparent, nearest, pack_row, quantize, unpack_row,
+    map_indexed, map_transparent, nearest, pack_row, unpack_row,
 };
 
 /// A table has no entry, or more than 256.
@@ -33,6 +32,13 @@ pub const BAD_DEPTH: u32 = 13;
 /// A table has no room for a color.
 pub const FULL_TABLE: u32 = 14;
 
+/// Returns whether a table may have so many entries: at least one, and at most 256.
+pub(crate) fn is_table(len: usize) -> bool
+    ensures { result ≡ is_table len }
+{
+    len != 0 && len <= 256
+}
+
 /// Writes the index of the entry that is nearest to a color, the first of equals. The distance is
 /// the sum of the squares of the differences in red, green and blue.
 ///
@@ -44,7 +50,7 @@ pub extern "C" fn pix_raw_nearest(entries: &[Color], clr: &Color, index: &mut u8
     ensures done { result ≡ 0
         → IsNearest (map numbers entries.now) (numbers clr.now) index.new }
 {
-    if entries.len() > 256 {
+    if !is_table(entries.len()) {
         return BAD_TABLE;
     }
     match nearest(entries, *clr) {
@@ -120,7 +126,7 @@ fn match_all<P: TablePixel>(
     ensures done { result ≡ 0 → AreMatched (map numbers entries.now) alpha transparent_index
         (map P.values pixels.now) indices.new }
 {
-    if entries.is_empty() || entries.len() > 256 {
+    if !is_table(entries.len()) {
         return BAD_TABLE;
     }
     if indices.len() != pixels.len() {
@@ -128,80 +134,6 @@ fn match_all<P: TablePixel>(
     }
     map_indexed(entries, pixels, alpha, transparent_index, indices);
     DONE
-}
-
-/// Writes a table of the colors of the pixels into the first of the entries, and into `made` how
-/// many it has. With no more distinct colors than entries they are the table, in order of first
-/// place. Else it is made by the cut by squared error. The other entries may hold
-/// anything.
-///
-/// Returns 0 when it is made. Else nothing is written. The status is then 11 where there is no
-/// entry or more than 256, and otherwise 7, where `work` has fewer colors than there are pixels.
-#[unsafe(no_mangle)]
-pub extern "C" fn pix_raw_quantize(
-    pixels: &[Color],
-    work: &mut [Color],
-    entries: &mut [Color],
-    made: &mut usize,
-) -> u32
-    ensures status { result ≡
-        quantize_status (length entries.old) (length pixels.now) (length work.old) }
-    ensures refused { result ≢ 0 → (work.new ≡ work.old) × (entries.new ≡ entries.old)
-        × (made.new ≡ made.old) }
-    ensures done { result ≡ 0 → (made.new ≤ length entries.new)
-        × IsQuantized (length entries.old) (shown 0 (map numbers pixels.now))
-        (map numbers (take made.new entries.new)) }
-{
-    quantize_pixels(pixels, 0, work, entries, made)
-}
-
-/// Does what [`pix_raw_quantize`] does, on pixels with an alpha. Those whose alpha is below `alpha`
-/// do not count.
-#[unsafe(no_mangle)]
-pub extern "C" fn pix_raw_quantize_alpha(
-    pixels: &[RgbaColor],
-    alpha: u8,
-    work: &mut [Color],
-    entries: &mut [Color],
-    made: &mut usize,
-) -> u32
-    ensures status { result ≡
-        quantize_status (length entries.old) (length pixels.now) (length work.old) }
-    ensures refused { result ≢ 0 → (work.new ≡ work.old) × (entries.new ≡ entries.old)
-        × (made.new ≡ made.old) }
-    ensures done { result ≡ 0 → (made.new ≤ length entries.new)
-        × IsQuantized (length entries.old) (shown alpha (map rgba_numbers pixels.now))
-        (map numbers (take made.new entries.new)) }
-{
-    quantize_pixels(pixels, alpha, work, entries, made)
-}
-
-/// Makes a table of pixels of any kind.
-fn quantize_pixels<P: TablePixel>(
-    pixels: &[P],
-    alpha: u8,
-    work: &mut [Color],
-    entries: &mut [Color],
-    made: &mut usize,
-) -> u32
-    ensures status { result ≡
-        quantize_status (length entries.old) (length pixels.now) (length work.old) }
-    ensures refused { result ≢ 0 → (work.new ≡ work.old) × (entries.new ≡ entries.old)
-        × (made.new ≡ made.old) }
-    ensures done { result ≡ 0 → (made.new ≤ length entries.new)
-        × IsQuantized (length entries.old) (shown alpha (map P.values pixels.now))
-        (map numbers (take made.new entries.new)) }
-{
-    if entries.is_empty() || entries.len() > 256 {
-        return BAD_TABLE;
-    }
-    match quantize(pixels, alpha, work, entries) {
-        Some(count) => {
-            *made = count;
-            DONE
-        }
-        None => BAD_LENGTH,
-    }
 }
 
 /// Sets the color of each pixel in a table, one after the other, and writes its index. The index is
@@ -237,7 +169,7 @@ pub extern "C" fn pix_raw_index_pixels(
         (take used.old entries.old) (map numbers pixels.now) indices.new
         (take used.new entries.new) }
 {
-    if entries.is_empty() || entries.len() > 256 {
+    if !is_table(entries.len()) {
         return BAD_TABLE;
     }
     if *used > entries.len() || indices.len() != pixels.len() {

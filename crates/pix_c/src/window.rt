@@ -18,11 +18,13 @@ use pix_flat::run;
 /// point (`left`, `top`) of the picture.
 ///
 /// The regions of the commands are regions of the picture. Each pixel becomes what it would become
-/// if the whole picture were passed to [`pix_raw_run`](crate::pix_raw_run). So windows of
-/// a picture may be painted one by one, in any order.
+/// if the whole picture were passed, which is the window at (0, 0) of itself. So windows of a
+/// picture may be painted one by one, in any order.
 ///
-/// Returns what [`pix_raw_run`](crate::pix_raw_run) returns, and
-/// [`BAD_SIZE`](crate::BAD_SIZE) too where `left + width` or `top + height` is above 2147483647.
+/// Returns 0 when all commands are done. Else nothing was painted. The status is then 1 where the
+/// window is not in `pixels`, or `left + width` or `top + height` is above 2147483647. Otherwise it
+/// says why the first refused command is refused. `done` is the number of commands before that one.
+/// It is 0 where the window is refused, and the number of all commands when they are done.
 #[unsafe(no_mangle)]
 pub extern "C" fn pix_raw_run_window(
     pixels: &mut [PixRgba8],

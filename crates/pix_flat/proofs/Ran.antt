@@ -3,6 +3,7 @@ use Rattle.std.proofs.Common.{◌≡◌, ℕ, ◌+◌, ◌≤◌, ◌<◌, List,
 use Rattle.std.proofs.lemmas.List.{length-map, get_or-map}
 use Rattle.pix_el.specs.Pixel.{Layout}
 use Rattle.pix_raster.specs.Region.{limit, whole}
+use Rattle.pix_raster.specs.Image.{Image}
 use Rattle.pix_raster.specs.Run.{run_at}
 use Rattle.pix_raster.specs.Window.{command_from}
 use Rattle.pix_raster.specs.Claims.{IsImageRun}
@@ -17,7 +18,7 @@ use Rattle.pix_raster.proofs.Windows.{RanIn, ran_on, ran_seen}
 use Rattle.pix_raster.proofs.ViewImages.{point_read}
 use Rattle.pix_flat.specs.declared.command.FlatCommand.{FlatCommand}
 use Rattle.pix_flat.specs.Command.{image_of, command_of}
-use Rattle.pix_flat.specs.Run.{IsRun, IsWindowRun}
+use Rattle.pix_flat.specs.Run.{IsWindowRun}
 
 -- the command at place i of a list, as one of the library
 pub told_at : {D M C : Type 0} (flat : C → FlatCommand D M) (cs : List C) (i : ℕ) (c : C) → i < length cs → c ≡ get_or cs i c
@@ -28,6 +29,13 @@ told_at flat cs i c within is =
 
 pub count_told : {D M C : Type 0} (flat : C → FlatCommand D M) (cs : List C) → length (map command_of (map flat cs)) ≡ length cs
 count_told flat cs = length-map (map flat cs) command_of ∙ length-map cs flat
+
+-- commands that are seen from the window at the corner of a picture are those of the picture
+at_corner : {D M : Type 0} (layout : Layout) (n : D → List ℕ) (m : M → List ℕ) (left top : ℕ) (cs : List (Command D M)) (before after : Image D) → left ≡ 0 → top ≡ 0
+    → IsImageRun layout n m (map (command_from left top) cs) before after → IsImageRun layout n m cs before after
+at_corner layout n m left top cs before after at_left at_top run =
+    let same : map (command_from left top) cs ≡ cs = rw (at_left, at_top) (commands_there cs) in
+    rw same at run
 
 module _ {D M : Type 0} (layout : Layout) (n : D → List ℕ) (m : M → List ℕ) (left top width height stride : ℕ) (commands : List (FlatCommand D M)) (old new : List D) where
   abbrev shape : Shape
@@ -54,16 +62,11 @@ module _ {D M : Type 0} (layout : Layout) (n : D → List ℕ) (m : M → List �
             ∙ sym (run_in_picture layout n m cs (left + width) (top + height) limit limit (left + x) (top + y) _ across down across down (omega arith) (omega arith))
             ∙ ap (run_at layout n m (whole (left + width) (top + height)) cs (left + x) (top + y)) (sym (point_read n width height stride old x y shaped lx ly));
       } in
+      let run : IsImageRun layout n m (map (command_from left top) cs) before after =
+      claims layout n m (map (command_from left top) cs) before after format (ran_seen layout n m left top cs before after across down here) in
       record {
         fold = λ picture_width picture_height wide high. ran_on layout n m left top cs before after across down here picture_width picture_height wide high;
-        run = claims layout n m (map (command_from left top) cs) before after format (ran_seen layout n m left top cs before after across down here);
+        run = run;
         stays = ran.stays;
+        image = λ at_left at_top. record { run = at_corner layout n m left top cs before after at_left at_top run; stays = ran.stays };
       }
-
--- a run on a window at the corner of a picture is a run on an image
-pub run_at_corner : {D M : Type 0} (layout : Layout) (n : D → List ℕ) (m : M → List ℕ) (width height stride : ℕ) (commands : List (FlatCommand D M)) (old new : List D)
-    → IsWindowRun layout n m 0 0 width height stride commands old new → IsRun layout n m width height stride commands old new
-run_at_corner layout n m width height stride commands old new ran =
-    let run : IsImageRun layout n m (map command_of commands) (image_of width height stride old) (image_of width height stride new) =
-    rw (commands_there (map command_of commands)) at ran.run in
-    record { run = run; stays = ran.stays }

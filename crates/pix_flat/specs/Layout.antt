@@ -56,7 +56,7 @@ mattes8_facts R = offset R 15 ∷ count_offset R 15 ∷ []
 -- the version; the sizes of the pixels; the region; the command of each format, for any lifetime of
 -- its slices
 abbrev pub facts : List ℕ
-facts = 3 ∷ size_of rgba8.the_row ∷ size_of rgba16.the_row ∷ size_of graya8.the_row ∷ region_facts region.the_row
+facts = 4 ∷ size_of rgba8.the_row ∷ size_of rgba16.the_row ∷ size_of graya8.the_row ∷ region_facts region.the_row
     ++ command_facts (command.the_row (record { mir = named 0; lft = [] }))
     ++ command_facts (command_rgba16.the_row (record { mir = named 0; lft = [] }))
     ++ mattes8_facts (command_rgba16.the_row (record { mir = named 0; lft = [] }))

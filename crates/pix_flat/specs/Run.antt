@@ -20,7 +20,7 @@ pub record IsRun {D M : Type 0} (layout : Layout) (numbers : D → List ℕ) (ma
       → slice_index_or (map numbers new) place [] ≡ slice_index_or (map numbers old) place []
 
 -- The run of a list of commands on a window of a picture: its first pixel lies at the picture's
--- point (left, top).
+-- point (left, top). An image by itself is the window at (0, 0).
 pub record IsWindowRun {D M : Type 0} (layout : Layout) (numbers : D → List ℕ) (mattes : M → List ℕ) (left top width height stride : ℕ)
     (commands : List (FlatCommand D M)) (old new : List D) : Type 0 where
   -- of each picture that has the window: at each point of the window, the effects of just those
@@ -34,3 +34,5 @@ pub record IsWindowRun {D M : Type 0} (layout : Layout) (numbers : D → List �
   -- what stands between the rows and after them stays
   pub stays : (place : ℕ) → IsNoPoint (record { width = width; height = height; stride = stride }) place
       → slice_index_or (map numbers new) place [] ≡ slice_index_or (map numbers old) place []
+  -- at the picture's point (0, 0), the run on the image itself
+  pub image : left ≡ 0 → top ≡ 0 → IsRun layout numbers mattes width height stride commands old new

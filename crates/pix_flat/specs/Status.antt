@@ -55,15 +55,6 @@ abbrev pub count_before_fault : {D M : Type 0} → List (FlatCommand D M) → �
 count_before_fault [] = 0
 count_before_fault (c ∷ cs) = if nat_eq (fault_of c) 0 then suc (count_before_fault cs) else 0
 
--- the status of a list of commands on an image: 1 if the image is not in its pixels, and else the
--- first fault
-abbrev pub status_of : {D M : Type 0} → (width height stride count : ℕ) → List (FlatCommand D M) → ℕ
-status_of width height stride count commands = if is_sized width height stride count then first_fault commands else 1
-
--- the index of the first command that is refused
-abbrev pub done_of : {D M : Type 0} → (width height stride count : ℕ) → List (FlatCommand D M) → ℕ
-done_of width height stride count commands = if is_sized width height stride count then count_before_fault commands else 0
-
 -- whether a number of columns, or rows, from the first on end within the limit
 abbrev pub is_placed : (first count : ℕ) → Bool
 is_placed first count = nat_le (first + count) limit

@@ -6,7 +6,7 @@ ghost use Rattle.pix_flat.specs.Layout.{facts, no_fact};
 /// The version of the calls, the sizes of the three pixels, the size and the offsets of a region,
 /// and those of the three commands.
 const FACTS: [u32; 65] = [
-    3, 4, 8, 2, 16, 0, 4, 8, 12, 128, 0, 4, 8, 24, 40, 48, 56, 64, 72, 80, 84, 88, 92, 108, 112,
+    4, 4, 8, 2, 16, 0, 4, 8, 12, 128, 0, 4, 8, 24, 40, 48, 56, 64, 72, 80, 84, 88, 92, 108, 112,
     116, 120, 144, 0, 4, 8, 24, 40, 48, 56, 64, 72, 80, 84, 88, 92, 108, 112, 116, 120, 128, 136,
     128, 0, 4, 8, 24, 40, 48, 56, 64, 72, 80, 84, 88, 92, 108, 112, 116, 120,
 ];

@@ -21,8 +21,8 @@
 //!
 //! | KiB | calls |
 //! |--:|---|
-//! | 272 | `pix_raw_quantize_refined`, `pix_raw_map_indexed`, `pix_raw_diffuse_indexed`, `pix_raw_diffuse_indexed_by`, and all four with `_alpha` |
-//! | 128 | `pix_raw_quantize`, `pix_raw_quantize_alpha`, `pix_raw_quantize_rgba` |
+//! | 272 | `pix_raw_quantize_refined`, `pix_raw_map_indexed`, `pix_raw_diffuse_indexed_by`, and all three with `_alpha` |
+//! | 128 | `pix_raw_quantize_rgba` |
 //! | 48 | `pix_raw_index_pixels`, `pix_raw_map_indexed_rgba`, `pix_raw_diffuse_indexed_rgba` |
 //! | 24 | all others |
 //!
@@ -146,11 +146,8 @@ pub mod status {
     pub const BAD_STRENGTH: u32 = 15;
 }
 
-/// A function that runs commands `C` on pixels `P`.
-pub type RunCommands<P, C> =
-    unsafe extern "C" fn(*mut P, usize, u32, u32, u32, *const C, usize, *mut usize) -> u32;
-
-/// A function that runs commands on a window of a picture. The window's place comes after the count of its pixels.
+/// A function that runs commands `C` on a window of a picture, of pixels `P`. The window's place comes after the count of its
+/// pixels.
 pub type RunWindow<P, C> = unsafe extern "C" fn(
     *mut P,
     usize,
@@ -166,55 +163,8 @@ pub type RunWindow<P, C> = unsafe extern "C" fn(
 
 #[link(name = "pix_c", kind = "static")]
 unsafe extern "C" {
-    /// Runs all commands on an image of `Rgba8`, or none; `done` is their number, or the index of the bad one.
-    ///
-    /// # Safety
-    ///
-    /// The [duties](crate#duties) are met.
-    pub fn pix_raw_run(
-        pixels: *mut Rgba8,
-        pixel_count: usize,
-        width: u32,
-        height: u32,
-        stride: u32,
-        commands: *const Command<Rgba8, u8>,
-        command_count: usize,
-        done: *mut usize,
-    ) -> u32;
-
-    /// The same on an image of `Rgba16`.
-    ///
-    /// # Safety
-    ///
-    /// The [duties](crate#duties) are met.
-    pub fn pix_raw_run_rgba16(
-        pixels: *mut Rgba16,
-        pixel_count: usize,
-        width: u32,
-        height: u32,
-        stride: u32,
-        commands: *const CommandRgba16,
-        command_count: usize,
-        done: *mut usize,
-    ) -> u32;
-
-    /// The same on an image of `Graya8`.
-    ///
-    /// # Safety
-    ///
-    /// The [duties](crate#duties) are met.
-    pub fn pix_raw_run_graya8(
-        pixels: *mut Graya8,
-        pixel_count: usize,
-        width: u32,
-        height: u32,
-        stride: u32,
-        commands: *const Command<Graya8, u8>,
-        command_count: usize,
-        done: *mut usize,
-    ) -> u32;
-
-    /// Runs all commands on a window of a picture. Its first pixel is the point (`left`, `top`) of the picture.
+    /// Runs all commands on a window of a picture of `Rgba8`, or none; `done` is their number, or the index of the bad one. The
+    /// window's first pixel is the point (`left`, `top`) of the picture, so an image by itself is the window at (0, 0).
     ///
     /// # Safety
     ///
@@ -311,7 +261,7 @@ unsafe extern "C" {
 }
 
 /// The version of the binary interface. It changes if a call, a number or a layout changes.
-pub const ABI_VERSION: u32 = 3;
+pub const ABI_VERSION: u32 = 4;
 
 /// The numbers that [`pix_layout`] returns, from 0 on. First comes the version. Then come the sizes of the three kinds of
 /// pixels and of a region, and the offsets of its fields. Last is the size of each kind's command, and the offsets of its

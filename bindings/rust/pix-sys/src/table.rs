@@ -29,7 +29,8 @@ unsafe extern "C" {
         index_count: usize,
     ) -> u32;
 
-    /// The same for pixels with an alpha: one below `alpha` gets the index `transparent_index`.
+    /// The same for pixels with an alpha: one below `alpha` gets the index `transparent_index`. If all are below, a table without
+    /// an entry serves too.
     ///
     /// # Safety
     ///
@@ -45,38 +46,7 @@ unsafe extern "C" {
         index_count: usize,
     ) -> u32;
 
-    /// Writes a table of the colors of pixels, and how many entries it has.
-    ///
-    /// # Safety
-    ///
-    /// The [duties](crate#duties) are met.
-    pub fn pix_raw_quantize(
-        pixels: *const Srgb8,
-        pixel_count: usize,
-        work: *mut Srgb8,
-        work_len: usize,
-        entries: *mut Srgb8,
-        len: usize,
-        made: *mut usize,
-    ) -> u32;
-
-    /// The same for pixels with an alpha: those below `alpha` do not count.
-    ///
-    /// # Safety
-    ///
-    /// The [duties](crate#duties) are met.
-    pub fn pix_raw_quantize_alpha(
-        pixels: *const Srgba8,
-        pixel_count: usize,
-        alpha: u8,
-        work: *mut Srgb8,
-        work_len: usize,
-        entries: *mut Srgb8,
-        len: usize,
-        made: *mut usize,
-    ) -> u32;
-
-    /// Writes the table of `pix_raw_quantize`, refined by `rounds` rounds.
+    /// Writes a table of the colors of pixels, refined by `rounds` rounds, and how many entries it has.
     ///
     /// # Safety
     ///
@@ -109,43 +79,8 @@ unsafe extern "C" {
         made: *mut usize,
     ) -> u32;
 
-    /// Writes the index of each pixel of rows of `width` by error diffusion.
-    ///
-    /// # Safety
-    ///
-    /// The [duties](crate#duties) are met.
-    pub fn pix_raw_diffuse_indexed(
-        entries: *const Srgb8,
-        len: usize,
-        pixels: *const Srgb8,
-        pixel_count: usize,
-        width: usize,
-        work: *mut Srgb8,
-        work_len: usize,
-        indices: *mut u8,
-        index_count: usize,
-    ) -> u32;
-
-    /// The same for pixels with an alpha: one below `alpha` gets the index `transparent_index`, and passes on no error.
-    ///
-    /// # Safety
-    ///
-    /// The [duties](crate#duties) are met.
-    pub fn pix_raw_diffuse_indexed_alpha(
-        entries: *const Srgb8,
-        len: usize,
-        pixels: *const Srgba8,
-        pixel_count: usize,
-        width: usize,
-        alpha: u8,
-        transparent_index: u8,
-        work: *mut Srgb8,
-        work_len: usize,
-        indices: *mut u8,
-        index_count: usize,
-    ) -> u32;
-
-    /// The same with `strength` sixteenths of each error. If `serpentine` isn't 0, every second row goes from right to left.
+    /// Writes the index of each pixel of rows of `width` by error diffusion, with `strength` sixteenths of each error. If
+    /// `serpentine` isn't 0, every second row goes from right to left.
     ///
     /// # Safety
     ///
@@ -164,7 +99,8 @@ unsafe extern "C" {
         index_count: usize,
     ) -> u32;
 
-    /// The same for pixels with an alpha.
+    /// The same for pixels with an alpha: one below `alpha` gets the index `transparent_index`, and passes on no error. If all
+    /// are below, a table without an entry serves too.
     ///
     /// # Safety
     ///

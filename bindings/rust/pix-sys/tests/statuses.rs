@@ -1,6 +1,6 @@
 //! Each status of these declarations, as the archive answers it, and the kinds by what they do.
 
-use pix_sys::{Command, Region, Rgba8, kind, pix_raw_convert, pix_raw_run, status};
+use pix_sys::{Command, Region, Rgba8, kind, pix_raw_convert, pix_raw_run_window, status};
 
 const WHOLE: Region = Region::new(0, 0, 2, 1);
 
@@ -40,9 +40,11 @@ fn run(width: u32, command: Command<Rgba8, u8>) -> (u32, [u8; 2]) {
     let mut done = 0;
     // SAFETY: pointers and counts are those of an array, a command and the slices of `command`.
     let answer = unsafe {
-        pix_raw_run(
+        pix_raw_run_window(
             pixels.as_mut_ptr(),
             2,
+            0,
+            0,
             width,
             1,
             width,

@@ -214,9 +214,6 @@ impl Format {
 pub fn convert(from: Format, src: &[u8], to: Format, dst: &mut [u8]) -> Result<(), Error> {
     pix_sys::check_library()?;
     let count = src.len() / from.size();
-    if src.len() != count * from.size() || Some(dst.len()) != count.checked_mul(to.size()) {
-        return Err(Error::Length);
-    }
     // SAFETY: pointers and lengths come from two slices, and the exclusive one shares no byte with the other.
     let answer = unsafe {
         pix_sys::pix_raw_convert(
