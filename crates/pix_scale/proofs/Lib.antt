@@ -1,0 +1,17 @@
+mod Calls
+mod Drawn
+mod Draws
+mod Flat
+mod Kernels
+mod LaneSums
+mod Narrow
+mod Parts
+mod Ratios
+mod Reciprocals
+mod ScaledLaws
+mod Singles
+mod Sums
+mod Tables
+mod Terms
+mod Windows
+mod Written

@@ -1,0 +1,83 @@
+-- One side of a picture at another size: how much each place of it counts for each place of the
+-- new side.
+use Rattle.std.specs.Prelude.{◌≡◌, ℕ, zero, suc, ◌+◌, ◌-◌, ◌*◌, ◌/◌, ◌%◌, ◌<◌, ◌&&◌, nat_eq, nat_le, min, max, if◌then◌else◌}
+use Rattle.std.specs.Int.{abs_diff}
+use Rattle.pix_scale.specs.Totals.{total}
+use Rattle.pix_scale.specs.declared.filter.Filter.{Filter}
+use Rattle.pix_scale.specs.declared.filter.Filter.TheVariants.{Nearest, Area, Linear}
+use Rattle.pix_scale.specs.declared.filter.Kernel.{Kernel}
+use Rattle.pix_scale.specs.declared.filter.Kernel.TheVariants.{Point, Box, Line, Triangle}
+
+-- how many places a side has, what place j counts for place i of the new side, and what all of
+-- them count together
+pub record Axis : Type 0 where
+  pub places : ℕ
+  pub weight : ℕ → ℕ → ℕ
+  pub whole : ℕ
+
+-- The weights of the first m places of the new side add up to the whole, which is positive.
+pub record IsAxis (axis : Axis) (m : ℕ) : Type 0 where
+  pub some : 0 < axis.whole
+  pub adds_up : (i : ℕ) → i < m → total axis.places (axis.weight i) ≡ axis.whole
+
+-- the greatest number up to k that divides both a and b
+abbrev pub common : ℕ → ℕ → ℕ → ℕ
+common zero a b = 1
+common (suc k) a b = if nat_eq (a % suc k) 0 && nat_eq (b % suc k) 0 then suc k else common k a b
+
+-- n divided by the greatest common divisor of n and m
+abbrev pub lowest : ℕ → ℕ → ℕ
+lowest n m = n / common (min n m) n m
+
+-- In what follows n places become m, both divided by their greatest common divisor. Place j of the
+-- old side begins at j * m and is m long, and place i of the new one begins at i * n and is n long.
+
+-- 1 for a place itself, and 0 for any other
+abbrev pub only : ℕ → ℕ → ℕ
+only j k = if nat_eq j k then 1 else 0
+
+-- how much of place i lies before place j
+abbrev pub before : ℕ → ℕ → ℕ → ℕ → ℕ
+before n m i j = min n (j * m - i * n)
+
+-- areas: the part of place i that lies in place j
+abbrev pub overlap : ℕ → ℕ → ℕ → ℕ → ℕ
+overlap n m i j = before n m i (j + 1) - before n m i j
+
+-- the place in which the middle of place i lies, of two the later
+abbrev pub nearest_place : ℕ → ℕ → ℕ → ℕ
+nearest_place n m i = (2 * i + 1) * n / (2 * m)
+
+-- twice the middle of place i, held between the middles of the first and the last of the old places
+abbrev pub held : (places n m i : ℕ) → ℕ
+held places n m i = max m (min ((2 * places - 1) * m) ((2 * i + 1) * n))
+
+-- how much nearer than 2 n the middles of places i and j are, both taken twice
+abbrev pub nearness : ℕ → ℕ → ℕ → ℕ → ℕ
+nearness n m i j = 2 * n - abs_diff ((2 * j + 1) * m) ((2 * i + 1) * n)
+
+-- 2 ^ 15 times the part that a number is of a sum, rounded to the nearest, ties up
+abbrev pub rounded_part : ℕ → ℕ → ℕ
+rounded_part part sum = (2 * (part * 32768) + sum) / (2 * sum)
+
+-- the part that the nearness of the places before j is of that of all
+abbrev pub mark : (places n m i j : ℕ) → ℕ
+mark places n m i j = rounded_part (total j (nearness n m i)) (total places (nearness n m i))
+
+-- the kernels: the middle alone; areas; the two nearest middles, each the more the nearer it is;
+-- and all middles nearer than an old place is long
+abbrev pub axis_of : Kernel → (places n m : ℕ) → Axis
+axis_of Point places n m = record { places = places; weight = λ i j. only j (nearest_place n m i); whole = 1 }
+axis_of Box places n m = record { places = places; weight = overlap n m; whole = n }
+axis_of Line places n m = record { places = places; weight = λ i j. 2 * m - abs_diff ((2 * j + 1) * m) (held places n m i); whole = 2 * m }
+axis_of Triangle places n m = record { places = places; weight = λ i j. mark places n m i (j + 1) - mark places n m i j; whole = 32768 }
+
+-- the kernel of a filter where n places become m
+abbrev pub kernel_of : Filter → ℕ → ℕ → Kernel
+kernel_of Nearest n m = Point
+kernel_of Area n m = Box
+kernel_of Linear n m = if nat_le n m then Line else Triangle
+
+-- a side of n places that become m, by a filter
+abbrev pub axis : Filter → ℕ → ℕ → Axis
+axis filter n m = axis_of (kernel_of filter n m) n (lowest n m) (lowest m n)
