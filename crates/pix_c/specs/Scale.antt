@@ -2,6 +2,7 @@
 use Rattle.std.specs.Prelude.{◌≡◌, ℕ, List, Bool, ◌&&◌, nat_eq, Option, Some, None, if◌then◌else◌}
 use Rattle.pix_el.specs.Pixel.{Layout}
 use Rattle.pix_flat.specs.Format.{rgba8, rgba16, graya8}
+use Rattle.pix_scale.specs.Axis.{axis}
 use Rattle.pix_scale.specs.Call.{size_fault, scale_fault, words, IsScaled}
 use Rattle.pix_scale.specs.declared.filter.Filter.{Filter}
 use Rattle.pix_scale.specs.declared.filter.Filter.TheVariants.{Nearest, Area, Linear}
@@ -46,7 +47,8 @@ scale_status layout (Some filter) view to from to_len from_len work_len =
 -- and everything else stays
 abbrev pub IsScaledBy : {D : Type 0} → (D → List ℕ) → Layout → Option Filter → View → (to from : Rows) → (source old new : List D) → Type 0
 IsScaledBy reads layout number view to from source old new =
-    (filter : Filter) → number ≡ Some filter → IsScaled reads layout.max layout.count filter view to from source old new
+    (filter : Filter) → number ≡ Some filter
+    → IsScaled reads layout.max layout.count (axis filter from.width view.across) (axis filter from.height view.down) view to from source old new
 
 -- the layout of pixels of so many channels of so many bits, if there is one
 abbrev pub layout_of_bits : (channels bits : ℕ) → Option Layout

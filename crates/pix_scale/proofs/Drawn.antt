@@ -7,7 +7,8 @@ use Rattle.std.proofs.lemmas.Nat.{mul-add-lt}
 use Rattle.pix_scale.specs.Totals.{total, flat, row_term, pixel_term, tap}
 use Rattle.pix_scale.specs.Axis.{Axis}
 use Rattle.pix_scale.specs.Table.{IsRow}
-use Rattle.pix_scale.specs.Scale.{column, channel_at}
+use Rattle.pix_scale.specs.Scale.{channel_at}
+use Rattle.pix_scale.proofs.Places.{column}
 use Rattle.pix_scale.proofs.Sums.{total_le, total_times}
 use Rattle.pix_scale.proofs.Parts.{in_part}
 use Rattle.pix_scale.proofs.Flat.{flat_at}
@@ -39,7 +40,7 @@ value_of_rest r xs start x =
 
 -- the sums of the rows of a table are those of a column of the picture
 pub sums_read : {D : Type 0} (r : D → List ℕ) (count stride first low : ℕ) (from : List D) (down : Axis) (y : ℕ) (weights : List ℕ) (u ch : ℕ)
-    → low ≤ u → ch < count → IsRow down y first weights
+    → low ≤ u → ch < count → IsRow down y first (length weights) (λ k. get_or weights k 0)
     → total (length weights) (row_term weights (flat count (map r (take (length from - (first * stride + low)) (drop (first * stride + low) from))))
     (stride * count) ((u - low) * count + ch))
     ≡ column down y (channel_at (map r from) stride ch u)

@@ -4,10 +4,10 @@ use Rattle.std.proofs.Math.Nat.{mul-le-mul, mul-le-mul_left, mul-le-mul_right}
 use Rattle.std.proofs.lemmas.Nat.{le-div}
 use Rattle.pix_scale.specs.Totals.{total, tap}
 use Rattle.pix_scale.specs.Axis.{axis_of}
-use Rattle.pix_scale.specs.Table.{taps_of, IsSide, IsRow, IsTable}
+use Rattle.pix_scale.specs.Table.{IsSide, IsRow, IsTable}
 use Rattle.pix_scale.specs.declared.filter.Kernel.{Kernel}
 use Rattle.pix_scale.specs.declared.filter.Kernel.TheVariants.{Point, Box, Line, Triangle}
-use Rattle.pix_scale.proofs.Tables.{places_of, row_total, table_total}
+use Rattle.pix_scale.proofs.Tables.{places_of}
 
 -- the whole is positive
 pub whole_some : (kernel : Kernel) (places size n m : ℕ) → IsSide kernel places size n m → 0 < (axis_of kernel places n m).whole
@@ -17,7 +17,7 @@ whole_some Line places size n m side = let s = side.some_m in omega arith
 whole_some Triangle places size n m side = omega arith
 
 -- some place counts
-pub taps_some : (kernel : Kernel) (places size n m : ℕ) → IsSide kernel places size n m → 0 < taps_of kernel places n m
+pub taps_some : (kernel : Kernel) (places size n m : ℕ) → IsSide kernel places size n m → 0 < (axis_of kernel places n m).taps
 taps_some Point places size n m side = let s = side.some_n in let t = side.short in omega arith
 taps_some Box places size n m side =
     let s = side.some_n in let u = side.some_m in let t = side.short in
@@ -34,9 +34,9 @@ pub factor_small : (a b k : ℕ) → 0 < b → a * b < k → a < k
 factor_small a b k some lt = let e : a * 1 ≤ a * b = mul-le-mul_left a some in omega (arith, e)
 
 -- the rows that a place of the new side needs lie in memory
-pub rows_lie : (kernel : Kernel) (places size n m y first stride high len : ℕ) (weights : List ℕ) → IsRow (axis_of kernel places n m) y first weights
-    → ((v : ℕ) → v < places → v * stride + high ≤ len) → (k : ℕ) → k < length weights → (first + k) * stride + high ≤ len
-rows_lie kernel places size n m y first stride high len weights row source k lt =
+pub rows_lie : (kernel : Kernel) (places size n m y first stride high len taps : ℕ) (weight : ℕ → ℕ) → IsRow (axis_of kernel places n m) y first taps weight
+    → ((v : ℕ) → v < places → v * stride + high ≤ len) → (k : ℕ) → k < taps → (first + k) * stride + high ≤ len
+rows_lie kernel places size n m y first stride high len taps weight row source k lt =
     let p = places_of kernel places n m in
     let i = row.inside in
     source (first + k) (omega (arith, p, i, lt))

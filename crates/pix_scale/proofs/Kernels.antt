@@ -6,8 +6,9 @@ use Rattle.std.proofs.Math.Nat.{mul-le-mul_right, mul-le-mul_left, div-mul-le_se
 use Rattle.std.proofs.lemmas.Nat.{div_below, le-div}
 use Rattle.std.proofs.lemmas.Bool.{cases_lt, cases_eq, eq-eqb, ne_eqb}
 use Rattle.pix_scale.specs.Totals.{total}
-use Rattle.pix_scale.specs.Axis.{only, before, overlap, nearest_place, held, nearness, rounded_part, mark, axis_of}
-use Rattle.pix_scale.specs.Table.{taps_of, start_of, first_of, IsSide}
+use Rattle.pix_scale.proofs.Places.{only, before, nearest_place}
+use Rattle.pix_scale.specs.Axis.{overlap, held, nearness, rounded_part, mark, axis_of}
+use Rattle.pix_scale.specs.Table.{start_of, first_of, IsSide}
 use Rattle.pix_scale.specs.declared.filter.Kernel.{Kernel}
 use Rattle.pix_scale.specs.declared.filter.Kernel.TheVariants.{Point, Box, Line, Triangle}
 use Rattle.pix_scale.proofs.Windows.{total_part}
@@ -22,7 +23,7 @@ within places size n m i side lt =
 -- places before the start, and those as many behind it as count, count nothing for place i
 pub record Around (kernel : Kernel) (places n m i : ℕ) : Type 0 where
   pub before : (j : ℕ) → j < start_of kernel places n m i → (axis_of kernel places n m).weight i j ≡ 0
-  pub behind : (j : ℕ) → start_of kernel places n m i + taps_of kernel places n m ≤ j → j < places → (axis_of kernel places n m).weight i j ≡ 0
+  pub behind : (j : ℕ) → start_of kernel places n m i + (axis_of kernel places n m).taps ≤ j → j < places → (axis_of kernel places n m).weight i j ≡ 0
 
 -- the nearest place is one of the old side
 pub nearest_within : {kernel : Kernel} (places size n m i : ℕ) → IsSide kernel places size n m → i < size → nearest_place n m i < places
@@ -164,7 +165,7 @@ around Line = line_around
 around Triangle = triangle_around
 
 -- no more places count than there are
-pub taps_within : (kernel : Kernel) (places n m : ℕ) → taps_of kernel places n m ≤ places
+pub taps_within : (kernel : Kernel) (places n m : ℕ) → (axis_of kernel places n m).taps ≤ places
 taps_within Point places n m = omega arith
 taps_within Box places n m = omega arith
 taps_within Line places n m = omega arith
@@ -172,9 +173,9 @@ taps_within Triangle places n m = omega arith
 
 -- the places that count, from the first on
 pub record Window (kernel : Kernel) (places n m i : ℕ) : Type 0 where
-  pub inside : first_of kernel places n m i + taps_of kernel places n m ≤ places
+  pub inside : first_of kernel places n m i + (axis_of kernel places n m).taps ≤ places
   pub before : (j : ℕ) → j < first_of kernel places n m i → (axis_of kernel places n m).weight i j ≡ 0
-  pub behind : (j : ℕ) → first_of kernel places n m i + taps_of kernel places n m ≤ j → j < places → (axis_of kernel places n m).weight i j ≡ 0
+  pub behind : (j : ℕ) → first_of kernel places n m i + (axis_of kernel places n m).taps ≤ j → j < places → (axis_of kernel places n m).weight i j ≡ 0
 
 pub window : (kernel : Kernel) (places size n m i : ℕ) → IsSide kernel places size n m → i < size → Window kernel places n m i
 window kernel places size n m i side lt =

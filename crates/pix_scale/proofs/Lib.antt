@@ -6,6 +6,7 @@ mod Kernels
 mod LaneSums
 mod Narrow
 mod Parts
+mod Places
 mod Ratios
 mod Reciprocals
 mod ScaledLaws

@@ -11,7 +11,7 @@ use Rattle.pix_chan.specs.NearestLaws.{nearest_natural}
 use Rattle.pix_scale.specs.Totals.{total}
 use Rattle.pix_scale.specs.Axis.{Axis, axis_of, kernel_of, lowest}
 use Rattle.pix_scale.specs.Table.{IsSide}
-use Rattle.pix_scale.specs.Scale.{column}
+use Rattle.pix_scale.proofs.Places.{column}
 use Rattle.pix_scale.specs.Laws.{AddsUp, KeepsOrder, KeepsValue}
 use Rattle.pix_scale.specs.declared.filter.Filter.{Filter}
 use Rattle.pix_scale.proofs.Draws.{whole_some}

@@ -9,13 +9,14 @@ use Rattle.std.proofs.lemmas.Nat.{div_below}
 use Rattle.std.proofs.lemmas.Nat.Gcd.{IsGcd-swap}
 use Rattle.pix_chan.specs.Nearest.{nearest}
 use Rattle.pix_scale.specs.Totals.{total}
-use Rattle.pix_scale.specs.Axis.{Axis, axis, axis_of, kernel_of, lowest, nearest_place, overlap, held}
-use Rattle.pix_scale.specs.Scale.{column, scaled}
+use Rattle.pix_scale.specs.Axis.{Axis, axis, axis_of, kernel_of, lowest, overlap, held}
+use Rattle.pix_scale.specs.Scale.{scaled}
 use Rattle.pix_scale.specs.Laws.{KeepsSize, Repeats}
 use Rattle.pix_scale.specs.declared.filter.Filter.{Filter}
 use Rattle.pix_scale.specs.declared.filter.Filter.TheVariants.{Nearest, Area, Linear}
 use Rattle.pix_scale.specs.declared.filter.Kernel.{Kernel}
 use Rattle.pix_scale.specs.declared.filter.Kernel.TheVariants.{Point, Box, Line, Triangle}
+use Rattle.pix_scale.proofs.Places.{nearest_place, column}
 use Rattle.pix_scale.proofs.Kernels.{only_same, only_apart}
 use Rattle.pix_scale.proofs.Ratios.{lowest_is}
 use Rattle.pix_scale.proofs.Reciprocals.{quotient_is}

@@ -1,10 +1,11 @@
 -- Rows and tables of weights.
 use Rattle.std.proofs.Common.{◌≡◌, ℕ, ◌+◌, ◌-◌, ◌*◌, ◌<◌, ◌≤◌, List, length, get_or, arith, refl, sym, ap, subst, ◌∙◌}
 use Rattle.pix_scale.specs.Totals.{total, tap}
-use Rattle.pix_scale.specs.Axis.{nearest_place, nearness, held, mark, rounded_part, axis_of}
-use Rattle.pix_scale.specs.Table.{taps_of, first_of, IsSide, IsRow, IsTable}
+use Rattle.pix_scale.specs.Axis.{nearness, held, mark, rounded_part, axis_of}
+use Rattle.pix_scale.specs.Table.{first_of, IsSide, IsRow, IsTable}
 use Rattle.pix_scale.specs.declared.filter.Kernel.{Kernel}
 use Rattle.pix_scale.specs.declared.filter.Kernel.TheVariants.{Point, Box, Line, Triangle}
+use Rattle.pix_scale.proofs.Places.{nearest_place}
 use Rattle.pix_scale.proofs.Kernels.{window, nearest_within, only_same, part_at, near_before, near_after, some_near, adds_up}
 use Rattle.pix_scale.proofs.Windows.{total_part, total_split, total_nothing}
 use Rattle.pix_scale.proofs.Sums.{total_same}
@@ -19,13 +20,13 @@ places_of Triangle places n m = refl
 
 -- a row of the weights of place i
 pub row_is : (kernel : Kernel) (places size n m i first : ℕ) (weights : List ℕ) → IsSide kernel places size n m → i < size
-    → first ≡ first_of kernel places n m i → length weights ≡ taps_of kernel places n m
+    → first ≡ first_of kernel places n m i → length weights ≡ (axis_of kernel places n m).taps
     → ((k : ℕ) → k < length weights → get_or weights k 0 ≡ (axis_of kernel places n m).weight i (first + k))
-    → IsRow (axis_of kernel places n m) i first weights
+    → IsRow (axis_of kernel places n m) i first (length weights) (λ k. get_or weights k 0)
 row_is kernel places size n m i first weights side lt e long weighs =
     let w = window kernel places size n m i side lt in
     let p = places_of kernel places n m in
-    subst (λ f. IsRow (axis_of kernel places n m) i f weights) (sym e) (record {
+    subst (λ f. IsRow (axis_of kernel places n m) i f (length weights) (λ k. get_or weights k 0)) (sym e) (record {
       inside = omega (arith, p, long, w.inside);
       weighs = λ k l. weighs k l ∙ ap (λ f. (axis_of kernel places n m).weight i (f + k)) e;
       none_before = w.before;
@@ -34,18 +35,18 @@ row_is kernel places size n m i first weights side lt e long weighs =
 
 -- the same where the kernel is known
 pub row_by : (known kernel : Kernel) (places size n m i first : ℕ) (weights : List ℕ) → kernel ≡ known → IsSide kernel places size n m → i < size
-    → first ≡ first_of kernel places n m i → length weights ≡ taps_of kernel places n m
-    → (IsSide known places size n m → first ≡ first_of known places n m i → length weights ≡ taps_of known places n m
+    → first ≡ first_of kernel places n m i → length weights ≡ (axis_of kernel places n m).taps
+    → (IsSide known places size n m → first ≡ first_of known places n m i → length weights ≡ (axis_of known places n m).taps
     → (k : ℕ) → k < length weights → get_or weights k 0 ≡ (axis_of known places n m).weight i (first + k))
-    → IsRow (axis_of kernel places n m) i first weights
+    → IsRow (axis_of kernel places n m) i first (length weights) (λ k. get_or weights k 0)
 row_by known kernel places size n m i first weights is side lt e long weighs =
     row_is kernel places size n m i first weights side lt e long
-    (subst (λ x. IsSide x places size n m → first ≡ first_of x places n m i → length weights ≡ taps_of x places n m
+    (subst (λ x. IsSide x places size n m → first ≡ first_of x places n m i → length weights ≡ (axis_of x places n m).taps
     → (k : ℕ) → k < length weights → get_or weights k 0 ≡ (axis_of x places n m).weight i (first + k)) (sym is) weighs side e long)
 
 -- the one weight of a point
 pub point_weighs : (places size n m i first : ℕ) (weights : List ℕ) → IsSide Point places size n m → i < size
-    → first ≡ first_of Point places n m i → length weights ≡ taps_of Point places n m
+    → first ≡ first_of Point places n m i → length weights ≡ (axis_of Point places n m).taps
     → ((k : ℕ) → k < length weights → get_or weights k 0 ≡ 1)
     → (k : ℕ) → k < length weights → get_or weights k 0 ≡ (axis_of Point places n m).weight i (first + k)
 point_weighs places size n m i first weights side lt e long ones k l =
@@ -61,50 +62,33 @@ tap_at kernel places n m at i k = (axis_of kernel places n m).weight (at + i) (f
 
 pub table_is : (kernel : Kernel) (places size n m at count : ℕ) (firsts weights : List ℕ) → IsSide kernel places size n m
     → at + count ≤ size → length firsts ≡ count
-    → Made firsts (first_at kernel places n m at) count → Pixels weights (taps_of kernel places n m) (tap_at kernel places n m at) count
-    → IsTable (axis_of kernel places n m) at firsts weights (taps_of kernel places n m)
+    → Made firsts (first_at kernel places n m at) count → Pixels weights (axis_of kernel places n m).taps (tap_at kernel places n m at) count
+    → IsTable (axis_of kernel places n m) at firsts weights (axis_of kernel places n m).taps
 table_is kernel places size n m at count firsts weights side le long made rows =
+    λ i lt.
     let p = places_of kernel places n m in
+    let e = made.at i (omega arith) in
+    let w = window kernel places size n m (at + i) side (omega arith) in
     record {
-      inside = λ i lt.
-          let w = window kernel places size n m (at + i) side (omega arith) in
-          omega (arith, p, w.inside, made.at i (omega arith));
-      weighs = λ i k lt in_.
-          let e = made.at i (omega arith) in
-          rw e (rows.at i k (omega arith) in_);
-      none_before = λ i j lt l.
-          let w = window kernel places size n m (at + i) side (omega arith) in
-          w.before j (omega (arith, l, made.at i (omega arith)));
-      none_after = λ i j lt l in_.
-          let w = window kernel places size n m (at + i) side (omega arith) in
-          w.behind j (omega (arith, l, made.at i (omega arith))) (omega (arith, p, in_));
+      inside = omega (arith, p, w.inside, e);
+      weighs = λ k in_. rw e (rows.at i k (omega arith) in_);
+      none_before = λ j l. w.before j (omega (arith, l, e));
+      none_after = λ j l in_. w.behind j (omega (arith, l, e)) (omega (arith, p, in_));
     }
 
 -- the weights of a row add up to the whole
-pub row_total : (kernel : Kernel) (places size n m i first : ℕ) (weights : List ℕ) → IsSide kernel places size n m → i < size
-    → IsRow (axis_of kernel places n m) i first weights
-    → total (length weights) (λ k. get_or weights k 0) ≡ (axis_of kernel places n m).whole
-row_total kernel places size n m i first weights side lt row =
+pub row_total : (kernel : Kernel) (places size n m i first taps : ℕ) (weight : ℕ → ℕ) → IsSide kernel places size n m → i < size
+    → IsRow (axis_of kernel places n m) i first taps weight → total taps weight ≡ (axis_of kernel places n m).whole
+row_total kernel places size n m i first taps weight side lt row =
     let p = places_of kernel places n m in
     let w : ℕ → ℕ = (axis_of kernel places n m).weight i in
-    total_same (length weights) (λ k. get_or weights k 0) (λ k. w (first + k)) row.weighs
-    ∙ sym (total_part places first (length weights) w (omega (arith, p, row.inside)) row.none_before (λ j l in_. row.none_after j l (omega (arith, p, in_))))
+    total_same taps weight (λ k. w (first + k)) row.weighs
+    ∙ sym (total_part places first taps w (omega (arith, p, row.inside)) row.none_before (λ j l in_. row.none_after j l (omega (arith, p, in_))))
     ∙ adds_up kernel places size n m i side lt
-
-pub table_total : (kernel : Kernel) (places size n m at i : ℕ) (firsts weights : List ℕ) (taps : ℕ) → IsSide kernel places size n m → at + i < size
-    → IsTable (axis_of kernel places n m) at firsts weights taps → i < length firsts
-    → total taps (tap weights taps i) ≡ (axis_of kernel places n m).whole
-table_total kernel places size n m at i firsts weights taps side lt table in_ =
-    let p = places_of kernel places n m in
-    let w : ℕ → ℕ = (axis_of kernel places n m).weight (at + i) in
-    let first : ℕ = get_or firsts i 0 in
-    total_same taps (tap weights taps i) (λ k. w (first + k)) (λ k l. table.weighs i k in_ l)
-    ∙ sym (total_part places first taps w (omega (arith, p, table.inside i in_)) (λ j l. table.none_before i j in_ l) (λ j l k. table.none_after i j in_ l (omega (arith, p, k))))
-    ∙ adds_up kernel places size n m (at + i) side lt
 
 -- the places that are near, from the first on
 pub near_from : (places size n m i first taps : ℕ) → IsSide Triangle places size n m → i < size
-    → first ≡ first_of Triangle places n m i → taps ≡ taps_of Triangle places n m
+    → first ≡ first_of Triangle places n m i → taps ≡ (axis_of Triangle places n m).taps
     → total places (nearness n m i) ≡ total taps (λ j. nearness n m i (first + j))
 near_from places size n m i first taps side lt e f =
     let w = window Triangle places size n m i side lt in
@@ -113,7 +97,7 @@ near_from places size n m i first taps side lt e f =
 
 -- the marks before a place from the first on, and of all places
 pub marks_from : (places size n m i first taps k : ℕ) → IsSide Triangle places size n m → i < size
-    → first ≡ first_of Triangle places n m i → taps ≡ taps_of Triangle places n m
+    → first ≡ first_of Triangle places n m i → taps ≡ (axis_of Triangle places n m).taps
     → part_at n m i first (total taps (λ j. nearness n m i (first + j))) k ≡ mark places n m i (first + k + 1) - mark places n m i (first + k)
 marks_from places size n m i first taps k side lt e f =
     let near : ℕ → ℕ = nearness n m i in
@@ -127,10 +111,10 @@ marks_from places size n m i first taps k side lt e f =
     rw (all, before, after) refl
 
 pub some_from : (kernel : Kernel) (places size n m i first taps : ℕ) → kernel ≡ Triangle → IsSide kernel places size n m → i < size
-    → first ≡ first_of kernel places n m i → taps ≡ taps_of kernel places n m
+    → first ≡ first_of kernel places n m i → taps ≡ (axis_of kernel places n m).taps
     → 0 < total taps (λ j. nearness n m i (first + j))
 some_from kernel places size n m i first taps is side lt e f =
     let s = subst (λ k. IsSide k places size n m) is side in
-    let near = near_from places size n m i first taps s lt (e ∙ ap (λ k. first_of k places n m i) is) (f ∙ ap (λ k. taps_of k places n m) is) in
+    let near = near_from places size n m i first taps s lt (e ∙ ap (λ k. first_of k places n m i) is) (f ∙ ap (λ k. (axis_of k places n m).taps) is) in
     let some = some_near places size n m i s lt in
     omega (arith, near, some)

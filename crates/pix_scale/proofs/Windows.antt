@@ -4,7 +4,7 @@ use Rattle.std.proofs.lemmas.List.{get_or-drop, length-take, length-drop, take_a
 use Rattle.pix_scale.specs.Totals.{total, row_term, pixel_term}
 use Rattle.pix_scale.specs.Axis.{Axis}
 use Rattle.pix_scale.specs.Table.{IsRow, IsTable}
-use Rattle.pix_scale.specs.Scale.{column}
+use Rattle.pix_scale.proofs.Places.{column}
 use Rattle.pix_scale.proofs.Sums.{total_same, at_of_part, length_part}
 
 -- a sum of a + b terms
@@ -51,7 +51,7 @@ rows_fit first k stride n low len h le =
 
 -- The sum of some rows, at a place, is that of all rows.
 pub column_of_rows : (down : Axis) (y first : ℕ) (weights : List ℕ) (numbers : ℕ → ℕ) (stride x : ℕ) (get : ℕ → ℕ)
-    → IsRow down y first weights
+    → IsRow down y first (length weights) (λ k. get_or weights k 0)
     → ((k : ℕ) → k < length weights → numbers (k * stride + x) ≡ get (first + k))
     → total (length weights) (row_term weights numbers stride x) ≡ column down y get
 column_of_rows down y first weights numbers stride x get row reads =
@@ -68,8 +68,9 @@ pub pixel_of_row : (across : Axis) (at : ℕ) (firsts weights : List ℕ) (taps 
     ≡ total across.places (λ u. across.weight (at + i) u * f u)
 pixel_of_row across at firsts weights taps sums n i c f table lt reads =
     let first : ℕ = get_or firsts i 0 in
-    let window = total_window across.places first taps (across.weight (at + i)) f (table.inside i lt) (λ j l. table.none_before i j lt l) (λ j l in_. table.none_after i j lt l in_) in
+    let row = table i lt in
+    let window = total_window across.places first taps (across.weight (at + i)) f row.inside row.none_before row.none_after in
     total_same taps (pixel_term weights taps i sums n first c) (λ k. across.weight (at + i) (first + k) * f (first + k)) (λ k lk.
     let place : first * n + (k * n + c) ≡ (first + k) * n + c = omega arith in
-    rw (table.weighs i k lt lk, place, reads k lk) refl)
+    rw (row.weighs k lk, place, reads k lk) refl)
     ∙ sym window

@@ -8,12 +8,13 @@ use Rattle.pix_scale.specs.declared.filter.Filter.TheVariants.{Nearest, Area, Li
 use Rattle.pix_scale.specs.declared.filter.Kernel.{Kernel}
 use Rattle.pix_scale.specs.declared.filter.Kernel.TheVariants.{Point, Box, Line, Triangle}
 
--- how many places a side has, what place j counts for place i of the new side, and what all of
--- them count together
+-- how many places a side has, what place j counts for place i of the new side, what all of them
+-- count together, and how many count something, at most
 pub record Axis : Type 0 where
   pub places : ℕ
   pub weight : ℕ → ℕ → ℕ
   pub whole : ℕ
+  pub taps : ℕ
 
 -- The weights of the first m places of the new side add up to the whole, which is positive.
 pub record IsAxis (axis : Axis) (m : ℕ) : Type 0 where
@@ -32,21 +33,10 @@ lowest n m = n / common (min n m) n m
 -- In what follows n places become m, both divided by their greatest common divisor. Place j of the
 -- old side begins at j * m and is m long, and place i of the new one begins at i * n and is n long.
 
--- 1 for a place itself, and 0 for any other
-abbrev pub only : ℕ → ℕ → ℕ
-only j k = if nat_eq j k then 1 else 0
-
--- how much of place i lies before place j
-abbrev pub before : ℕ → ℕ → ℕ → ℕ → ℕ
-before n m i j = min n (j * m - i * n)
-
--- areas: the part of place i that lies in place j
+-- areas: the part of place i that lies in place j, which is what lies before its end less what lies
+-- before it
 abbrev pub overlap : ℕ → ℕ → ℕ → ℕ → ℕ
-overlap n m i j = before n m i (j + 1) - before n m i j
-
--- the place in which the middle of place i lies, of two the later
-abbrev pub nearest_place : ℕ → ℕ → ℕ → ℕ
-nearest_place n m i = (2 * i + 1) * n / (2 * m)
+overlap n m i j = min n ((j + 1) * m - i * n) - min n (j * m - i * n)
 
 -- twice the middle of place i, held between the middles of the first and the last of the old places
 abbrev pub held : (places n m i : ℕ) → ℕ
@@ -64,13 +54,13 @@ rounded_part part sum = (2 * (part * 32768) + sum) / (2 * sum)
 abbrev pub mark : (places n m i j : ℕ) → ℕ
 mark places n m i j = rounded_part (total j (nearness n m i)) (total places (nearness n m i))
 
--- the kernels: the middle alone; areas; the two nearest middles, each the more the nearer it is;
--- and all middles nearer than an old place is long
+-- the kernels: the place in which the middle lies, of two the later; areas; the two nearest middles,
+-- each the more the nearer it is; and all middles nearer than an old place is long
 abbrev pub axis_of : Kernel → (places n m : ℕ) → Axis
-axis_of Point places n m = record { places = places; weight = λ i j. only j (nearest_place n m i); whole = 1 }
-axis_of Box places n m = record { places = places; weight = overlap n m; whole = n }
-axis_of Line places n m = record { places = places; weight = λ i j. 2 * m - abs_diff ((2 * j + 1) * m) (held places n m i); whole = 2 * m }
-axis_of Triangle places n m = record { places = places; weight = λ i j. mark places n m i (j + 1) - mark places n m i j; whole = 32768 }
+axis_of Point places n m = record { places = places; weight = λ i j. if nat_eq j ((2 * i + 1) * n / (2 * m)) then 1 else 0; whole = 1; taps = min places 1 }
+axis_of Box places n m = record { places = places; weight = overlap n m; whole = n; taps = min places ((n + 2 * m - 2) / m) }
+axis_of Line places n m = record { places = places; weight = λ i j. 2 * m - abs_diff ((2 * j + 1) * m) (held places n m i); whole = 2 * m; taps = min places 2 }
+axis_of Triangle places n m = record { places = places; weight = λ i j. mark places n m i (j + 1) - mark places n m i j; whole = 32768; taps = min places ((2 * n + m - 1) / m) }
 
 -- the kernel of a filter where n places become m
 abbrev pub kernel_of : Filter → ℕ → ℕ → Kernel

@@ -1,17 +1,11 @@
 -- Tables of weights: those places that count something, for each place of the new side.
 use Rattle.std.specs.Prelude.{◌≡◌, ℕ, ◌+◌, ◌-◌, ◌*◌, ◌/◌, ◌^◌, ◌<◌, ◌≤◌, List, length, slice_index, min}
+use Rattle.pix_scale.specs.Totals.{tap}
 use Rattle.pix_scale.specs.Axis.{Axis, axis_of, held}
 use Rattle.pix_scale.specs.declared.side.Side.{Side}
 use Rattle.pix_scale.specs.declared.shape.View.{View}
 use Rattle.pix_scale.specs.declared.filter.Kernel.{Kernel}
 use Rattle.pix_scale.specs.declared.filter.Kernel.TheVariants.{Point, Box, Line, Triangle}
-
--- how many places count something for a place of the new side, at most
-abbrev pub taps_of : Kernel → (places n m : ℕ) → ℕ
-taps_of Point places n m = min places 1
-taps_of Box places n m = min places ((n + 2 * m - 2) / m)
-taps_of Line places n m = min places 2
-taps_of Triangle places n m = min places ((2 * n + m - 1) / m)
 
 -- a place up to the first that counts something for place i
 abbrev pub start_of : Kernel → (places n m i : ℕ) → ℕ
@@ -22,7 +16,7 @@ start_of Triangle places n m i = (2 * i * n - n + m) / (2 * m)
 
 -- such a place with all that count something behind it
 abbrev pub first_of : Kernel → (places n m i : ℕ) → ℕ
-first_of kernel places n m i = min (places - taps_of kernel places n m) (start_of kernel places n m i)
+first_of kernel places n m i = min (places - (axis_of kernel places n m).taps) (start_of kernel places n m i)
 
 -- n of `places` become m of `size`, in the same ratio; there are at most 65,535 places, and a
 -- triangle is for a side that shrinks
@@ -35,27 +29,21 @@ pub record IsSide (kernel : Kernel) (places size n m : ℕ) : Type 0 where
   pub same : places * m ≡ size * n
   pub shrinks : kernel ≡ Triangle → m ≤ n
 
--- The weights are those of place i, for the places from `first` on. The others count nothing.
-pub record IsRow (axis : Axis) (i first : ℕ) (weights : List ℕ) : Type 0 where
-  pub inside : first + length weights ≤ axis.places
-  pub weighs : (k : ℕ) → k < length weights → slice_index weights k ≡ axis.weight i (first + k)
+-- The weights are those of place i, for `taps` places from `first` on. The others count nothing.
+pub record IsRow (axis : Axis) (i first taps : ℕ) (weight : ℕ → ℕ) : Type 0 where
+  pub inside : first + taps ≤ axis.places
+  pub weighs : (k : ℕ) → k < taps → weight k ≡ axis.weight i (first + k)
   pub none_before : (j : ℕ) → j < first → axis.weight i j ≡ 0
-  pub none_after : (j : ℕ) → first + length weights ≤ j → j < axis.places → axis.weight i j ≡ 0
+  pub none_after : (j : ℕ) → first + taps ≤ j → j < axis.places → axis.weight i j ≡ 0
 
--- A table has what `taps` places count for each of some places of the new side, from `at` on: for
--- place at + i those from the i-th of `firsts` on. The other places count nothing.
-pub record IsTable (axis : Axis) (at : ℕ) (firsts weights : List ℕ) (taps : ℕ) : Type 0 where
-  pub inside : (i : ℕ) → i < length firsts → slice_index firsts i + taps ≤ axis.places
-  pub weighs : (i k : ℕ) → i < length firsts → k < taps → slice_index weights (i * taps + k) ≡ axis.weight (at + i) (slice_index firsts i + k)
-  pub none_before : (i j : ℕ) → i < length firsts → j < slice_index firsts i → axis.weight (at + i) j ≡ 0
-  pub none_after : (i j : ℕ) → i < length firsts → slice_index firsts i + taps ≤ j → j < axis.places → axis.weight (at + i) j ≡ 0
+-- A table has a row for each of some places of the new side, from `at` on: the i-th is for the places
+-- from the i-th of `firsts` on.
+abbrev pub IsTable : Axis → ℕ → (firsts weights : List ℕ) → (taps : ℕ) → Type 0
+IsTable axis at firsts weights taps = (i : ℕ) → i < length firsts → IsRow axis (at + i) (slice_index firsts i) taps (tap weights taps i)
 
--- the axis of a side, and how many of its places count for a new one, at most
+-- the axis of a side
 abbrev pub side_axis : Side → Axis
 side_axis side = axis_of side.kernel side.places side.n side.m
-
-abbrev pub side_taps : Side → ℕ
-side_taps side = taps_of side.kernel side.places side.n side.m
 
 -- What a window is drawn by: both sides, as the whole picture has them; rows of a source that have
 -- all places; and sums that fit.

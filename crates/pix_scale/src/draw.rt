@@ -1,8 +1,9 @@
 //! The rows of a window of a picture at another size.
 ghost use Rattle.std.specs.Prelude.{◌≡◌, ◌≢◌, ℕ, ◌+◌, ◌*◌, ◌^◌, ◌<◌, ◌≤◌, List, [], length, map, slice_index, slice_index_or};
-ghost use Rattle.pix_scale.specs.Table.{side_axis, side_taps, AreSides, IsTable};
+ghost use Rattle.pix_scale.specs.Axis.{axis};
+ghost use Rattle.pix_scale.specs.Table.{side_axis, AreSides, IsTable};
 ghost use Rattle.pix_scale.specs.Scale.{scaled, channel_at};
-ghost use Rattle.pix_scale.specs.Call.{size_fault, memory_fault, IsDrawn, IsScaled};
+ghost use Rattle.pix_scale.specs.Call.{size_fault, memory_fault, IsScaled};
 
 use crate::filter::Filter;
 use crate::rounding::Divisor;
@@ -37,15 +38,15 @@ fn draw_row<P: Pixel, D: Stored<P>>(
     requires long { length to.old ≡ length firsts.now }
     requires inside { view.left + length firsts.now ≤ view.across }
     requires table { IsTable (side_axis across) view.left firsts.now weights.now
-        (side_taps across) }
-    requires weights { length weights.now ≡ length firsts.now * side_taps across }
+        (side_axis across).taps }
+    requires weights { length weights.now ≡ length firsts.now * (side_axis across).taps }
     requires low { (i : ℕ) → i < length firsts.now → low ≤ slice_index firsts.now i }
     requires high { (i : ℕ) → i < length firsts.now
-        → slice_index firsts.now i + side_taps across ≤ high }
+        → slice_index firsts.now i + (side_axis across).taps ≤ high }
     requires order { low ≤ high }
     requires within { high ≤ across.places }
     requires y { y < view.down }
-    requires row { length row.old ≡ side_taps down }
+    requires row { length row.old ≡ (side_axis down).taps }
     requires sums { length sums.old ≡ across.places * P.layout.count }
     requires by { by.whole ≡ (side_axis across).whole * (side_axis down).whole }
     ensures { (x c : ℕ) → x < length firsts.now → c < P.layout.count
@@ -67,7 +68,7 @@ fn draw_rows<P: Pixel, D: Stored<P>>(
     rows: Rows,
     view: View,
     from: &[D],
-    stride: usize,
+    source: Rows,
     across: Side,
     down: Side,
     firsts: &mut [u32],
@@ -77,20 +78,20 @@ fn draw_rows<P: Pixel, D: Stored<P>>(
 )
     requires some { 0 < P.layout.count }
     requires few { P.layout.count ≤ 8 }
-    requires sides { AreSides P.Chan.max across down view stride (length from.now) }
+    requires sides { AreSides P.Chan.max across down view source.stride (length from.now) }
     requires width { 0 < rows.width }
     requires apart { rows.width ≤ rows.stride }
     requires fit { (y : ℕ) → y < rows.height → y * rows.stride + rows.width ≤ length to.old }
     requires left { view.left + rows.width ≤ view.across }
     requires top { view.top + rows.height ≤ view.down }
     requires firsts { length firsts.old ≡ rows.width }
-    requires weights { length weights.old ≡ rows.width * side_taps across }
-    requires row { length row.old ≡ side_taps down }
+    requires weights { length weights.old ≡ rows.width * (side_axis across).taps }
+    requires row { length row.old ≡ (side_axis down).taps }
     requires sums { length sums.old ≡ across.places * P.layout.count }
-    ensures { IsDrawn D.reads P.Chan.max P.layout.count (side_axis across) (side_axis down) view
-        rows.width rows.height rows.stride stride from.now to.old to.new }
+    ensures { IsScaled D.reads P.Chan.max P.layout.count (side_axis across) (side_axis down) view
+        rows source from.now to.old to.new }
 {
-    let width = rows.width as usize;
+    let (width, stride) = (rows.width as usize, source.stride as usize);
     write_table(
         across,
         u64::from(view.across),
@@ -128,23 +129,23 @@ fn draw_in<P: Pixel, D: Stored<P>>(
     rows: Rows,
     view: View,
     from: &[D],
-    stride: usize,
+    source: Rows,
     across: Side,
     down: Side,
     work: &mut [u32],
 )
     requires some { 0 < P.layout.count }
     requires few { P.layout.count ≤ 8 }
-    requires sides { AreSides P.Chan.max across down view stride (length from.now) }
+    requires sides { AreSides P.Chan.max across down view source.stride (length from.now) }
     requires width { 0 < rows.width }
     requires apart { rows.width ≤ rows.stride }
     requires fit { (y : ℕ) → y < rows.height → y * rows.stride + rows.width ≤ length to.old }
     requires left { view.left + rows.width ≤ view.across }
     requires top { view.top + rows.height ≤ view.down }
-    requires work { (rows.width + rows.width * side_taps across)
-        + (side_taps down + across.places * P.layout.count) ≤ length work.old }
-    ensures { IsDrawn D.reads P.Chan.max P.layout.count (side_axis across) (side_axis down) view
-        rows.width rows.height rows.stride stride from.now to.old to.new }
+    requires work { (rows.width + rows.width * (side_axis across).taps)
+        + ((side_axis down).taps + across.places * P.layout.count) ≤ length work.old }
+    ensures { IsScaled D.reads P.Chan.max P.layout.count (side_axis across) (side_axis down) view
+        rows source from.now to.old to.new }
 {
     let width = rows.width as usize;
     let (firsts, rest) = work.split_at_mut(width);
@@ -152,7 +153,7 @@ fn draw_in<P: Pixel, D: Stored<P>>(
     let (row, rest) = rest.split_at_mut(down.taps() as usize);
     let sums = &mut rest[..across.places as usize * P::default().channels().len()];
     draw_rows::<P, D>(
-        to, rows, view, from, stride, across, down, firsts, weights, row, sums,
+        to, rows, view, from, source, across, down, firsts, weights, row, sums,
     );
 }
 
@@ -171,22 +172,13 @@ pub(crate) fn draw<P: Pixel, D: Stored<P>>(
     requires sizes { size_fault P.Chan.max filter view source ≡ None }
     requires memory { memory_fault P.layout.count filter view rows source (length to.old)
         (length from.now) (length work.old) ≡ None }
-    ensures { IsScaled D.reads P.Chan.max P.layout.count filter view rows source from.now to.old
-        to.new }
+    ensures { IsScaled D.reads P.Chan.max P.layout.count (axis filter source.width view.across)
+        (axis filter source.height view.down) view rows source from.now to.old to.new }
 {
     if rows.width == 0 {
         return;
     }
     let across = Side::new(filter, source.width, view.across);
     let down = Side::new(filter, source.height, view.down);
-    draw_in::<P, D>(
-        to,
-        rows,
-        view,
-        from,
-        source.stride as usize,
-        across,
-        down,
-        work,
-    );
+    draw_in::<P, D>(to, rows, view, from, source, across, down, work);
 }

@@ -1,6 +1,6 @@
 //! What is refused, and how much work memory it takes.
-ghost use Rattle.std.specs.Prelude.{◌≡◌, ◌<◌, ◌≤◌, IfOk, IfErr, Some, None};
-ghost use Rattle.pix_scale.specs.Call.{size_fault, is_inside, fit_in, words, memory_fault, IsSized};
+ghost use Rattle.std.specs.Prelude.{◌≡◌, ◌+◌, ◌≤◌, ◌&&◌, nat_le, None};
+ghost use Rattle.pix_scale.specs.Call.{size_fault, fit_in, words, memory_fault};
 
 use crate::fault::ScaleFault;
 use crate::filter::Filter;
@@ -39,17 +39,24 @@ fn fit_in(rows: Rows, count: usize) -> bool
 
 /// Returns whether the window lies in the new picture.
 fn is_inside(view: View, to: Rows) -> bool
-    ensures { result ≡ is_inside view to }
+    ensures { result ≡ (nat_le (view.left + to.width) view.across
+        && nat_le (view.top + to.height) view.down) }
 {
     u64::from(view.left) + u64::from(to.width) <= u64::from(view.across)
         && u64::from(view.top) + u64::from(to.height) <= u64::from(view.down)
 }
 
-/// Returns how many words of work memory it takes. Condition: no side is 0, and a pixel has at most
-/// eight channels.
-pub(crate) fn words(count: usize, filter: Filter, view: View, to: Rows, from: Rows) -> u64
+/// Returns how many words of work memory it takes. Condition: nothing is wrong with the sizes, and
+/// a pixel has at most eight channels.
+pub(crate) fn words<C: Channel>(
+    count: usize,
+    filter: Filter,
+    view: View,
+    to: Rows,
+    from: Rows,
+) -> u64
     requires count { count ≤ 8 }
-    requires sizes { IsSized view from }
+    requires sizes { size_fault C.max filter view from ≡ None }
     ensures { result ≡ words count filter view to from }
 {
     let across = Side::new(filter, from.width, view.across).taps();
@@ -58,9 +65,9 @@ pub(crate) fn words(count: usize, filter: Filter, view: View, to: Rows, from: Ro
     (width + width * across) + (down + u64::from(from.width) * count as u64)
 }
 
-/// Returns what is wrong with the memory that was passed, if anything. Condition: no side is 0, and
-/// a pixel has at most eight channels.
-pub(crate) fn memory_fault(
+/// Returns what is wrong with the memory that was passed, if anything. Condition: nothing is wrong
+/// with the sizes, and a pixel has at most eight channels.
+pub(crate) fn memory_fault<C: Channel>(
     count: usize,
     filter: Filter,
     view: View,
@@ -71,7 +78,7 @@ pub(crate) fn memory_fault(
     work_len: usize,
 ) -> Option<ScaleFault>
     requires count { count ≤ 8 }
-    requires sizes { IsSized view from }
+    requires sizes { size_fault C.max filter view from ≡ None }
     ensures { result ≡ memory_fault count filter view to from to_len from_len work_len }
 {
     if !is_inside(view, to) {
@@ -83,7 +90,7 @@ pub(crate) fn memory_fault(
     if !fit_in(from, from_len) {
         return Some(ScaleFault::BadSource);
     }
-    if words(count, filter, view, to, from) <= work_len as u64 {
+    if words::<C>(count, filter, view, to, from) <= work_len as u64 {
         None
     } else {
         Some(ScaleFault::SmallWork)

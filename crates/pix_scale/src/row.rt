@@ -115,7 +115,8 @@ pub(crate) fn scale_row<P: Pixel, D: Stored<P>>(
     requires bound { (i : ℕ) → i < length firsts.now → total taps (tap weights.now taps i)
         * total (length down.now) (slice_index down.now) ≤ by.whole }
     ensures { (across rows : Axis) (at y : ℕ) → IsTable across at firsts.now weights.now taps
-        → IsRow rows y first down.now → by.whole ≡ across.whole * rows.whole
+        → IsRow rows y first (length down.now) (slice_index down.now)
+        → by.whole ≡ across.whole * rows.whole
         → (i c : ℕ) → i < length firsts.now → c < P.layout.count
         → slice_index (slice_index_or (map D.reads to.new) i []) c ≡ scaled P.Chan.max across rows
         (channel_at (map D.reads from.now) stride c) (at + i) y }

@@ -1,5 +1,6 @@
 //! Windows of a picture at another size, in memory that the caller owns.
 ghost use Rattle.std.specs.Prelude.{◌≡◌, ◌<◌, ◌≤◌, length, IfOk, IfErr, Some, None};
+ghost use Rattle.pix_scale.specs.Axis.{axis};
 ghost use Rattle.pix_scale.specs.Call.{size_fault, words, scale_fault, IsScaled};
 
 use crate::draw::draw;
@@ -33,7 +34,7 @@ where
         return Err(fault);
     }
     let count = P::default().channels().len();
-    Ok(words(count, filter, view, rows, source))
+    Ok(words::<P::Chan>(count, filter, view, rows, source))
 }
 
 /// Draws the window `rows` of a picture at another size, the one that `view` names, into `to`. Its
@@ -64,7 +65,8 @@ where
     ensures fault { IfErr result (λ fault. scale_fault P.Chan.max P.layout.count filter view rows
         source (length to.old) (length from.now) (length work.old) ≡ Some fault) }
     ensures refused { IfErr result (λ _. to.new ≡ to.old) }
-    ensures scaled { IfOk result (λ _. IsScaled D.reads P.Chan.max P.layout.count filter view rows
+    ensures scaled { IfOk result (λ _. IsScaled D.reads P.Chan.max P.layout.count
+        (axis filter source.width view.across) (axis filter source.height view.down) view rows
         source from.now to.old to.new) }
 {
     if let Some(fault) = size_fault::<P::Chan>(filter, view, source) {
@@ -72,7 +74,7 @@ where
     }
     let count = P::default().channels().len();
     let lengths = (to.len(), from.len(), work.len());
-    let fault = memory_fault(
+    let fault = memory_fault::<P::Chan>(
         count, filter, view, rows, source, lengths.0, lengths.1, lengths.2,
     );
     if let Some(fault) = fault {

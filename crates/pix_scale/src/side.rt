@@ -2,8 +2,7 @@
 ghost use Rattle.std.specs.Prelude.{◌≡◌, ◌+◌, ◌-◌, ◌*◌, ◌/◌, ◌<◌, ◌≤◌, min};
 ghost use Rattle.std.specs.Int.{IsGcd};
 ghost use Rattle.pix_scale.specs.Axis.{axis, axis_of, common, kernel_of, lowest};
-ghost use Rattle.pix_scale.specs.Call.{taps};
-ghost use Rattle.pix_scale.specs.Table.{taps_of, start_of, first_of, IsSide};
+ghost use Rattle.pix_scale.specs.Table.{IsSide};
 
 use crate::filter::{Filter, Kernel};
 
@@ -62,7 +61,6 @@ impl Side {
         ensures m { result.m ≡ lowest m n }
         ensures side { n ≤ 65535 → IsSide result.kernel result.places m result.n result.m }
         ensures axis { axis_of result.kernel result.places result.n result.m ≡ axis filter n m }
-        ensures taps { taps_of result.kernel result.places result.n result.m ≡ taps filter n m }
         ensures some_n { 0 < result.n }
         ensures some_m { 0 < result.m }
     {
@@ -91,7 +89,7 @@ impl Side {
     /// Returns how many places count something for one of the new side, at most.
     pub(crate) fn taps(self) -> u64
         requires some_m { 0 < self.m }
-        ensures value { result ≡ taps_of self.kernel self.places self.n self.m }
+        ensures value { result ≡ (axis_of self.kernel self.places self.n self.m).taps }
         ensures small { result ≤ self.places }
     {
         let (places, n, m) = (u64::from(self.places), u64::from(self.n), u64::from(self.m));

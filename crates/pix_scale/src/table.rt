@@ -1,7 +1,7 @@
 //! The table of weights of some places of the new side.
 ghost use Rattle.std.specs.Prelude.{◌≡◌, ℕ, ◌+◌, ◌*◌, ◌<◌, ◌≤◌, length, slice_index};
 ghost use Rattle.pix_scale.specs.Axis.{axis_of};
-ghost use Rattle.pix_scale.specs.Table.{taps_of, IsSide, IsTable};
+ghost use Rattle.pix_scale.specs.Table.{IsSide, IsTable};
 
 use crate::side::Side;
 use crate::weights::weigh;
@@ -14,9 +14,9 @@ pub(crate) fn write_table(side: Side, size: u64, at: u64, firsts: &mut [u32], we
     requires size { size < 4294967296 }
     requires fits { (axis_of side.kernel side.places side.n side.m).whole < 4294967296 }
     requires table { length weights.old ≡
-        length firsts.old * taps_of side.kernel side.places side.n side.m }
+        length firsts.old * (axis_of side.kernel side.places side.n side.m).taps }
     ensures { IsTable (axis_of side.kernel side.places side.n side.m) at firsts.new weights.new
-        (taps_of side.kernel side.places side.n side.m) }
+        (axis_of side.kernel side.places side.n side.m).taps }
 {
     let taps = side.taps() as usize;
     for i in 0..firsts.len() {

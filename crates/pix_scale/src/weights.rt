@@ -3,7 +3,7 @@ ghost use Rattle.std.specs.Prelude.{◌≡◌, ℕ, ◌+◌, ◌-◌, ◌*◌, �
 ghost use Rattle.std.specs.Int.{abs_diff};
 ghost use Rattle.pix_scale.specs.Totals.{total};
 ghost use Rattle.pix_scale.specs.Axis.{axis_of, overlap, held, nearness, rounded_part};
-ghost use Rattle.pix_scale.specs.Table.{taps_of, start_of, first_of, IsSide, IsRow};
+ghost use Rattle.pix_scale.specs.Table.{start_of, first_of, IsSide, IsRow};
 ghost use Rattle.pix_scale.specs.declared.filter.Kernel.TheVariants.{Point, Box, Line, Triangle};
 
 use crate::filter::Kernel;
@@ -155,9 +155,10 @@ pub(crate) fn weigh(side: Side, size: u64, i: u64, row: &mut [u32]) -> u64
     requires i { i < size }
     requires size { size < 4294967296 }
     requires fits { (axis_of side.kernel side.places side.n side.m).whole < 4294967296 }
-    requires taps { length row.old ≡ taps_of side.kernel side.places side.n side.m }
+    requires taps { length row.old ≡ (axis_of side.kernel side.places side.n side.m).taps }
     ensures first { result ≡ first_of side.kernel side.places side.n side.m i }
-    ensures row { IsRow (axis_of side.kernel side.places side.n side.m) i result row.new }
+    ensures row { IsRow (axis_of side.kernel side.places side.n side.m) i result (length row.new)
+        (slice_index row.new) }
 {
     let (places, n, m) = (side.places as u64, side.n as u64, side.m as u64);
     let first = start(side, i).min(places - row.len() as u64);

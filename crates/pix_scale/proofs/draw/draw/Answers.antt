@@ -1,4 +1,5 @@
-use Rattle.std.proofs.Common.{length}
+use Rattle.std.proofs.Common.{◌*◌, length, arith, ap}
+use Rattle.pix_scale.specs.Axis.{Axis}
 use Rattle.pix_scale.proofs.Calls.{sizes, memory, are_sides}
 use Rattle.pix_scale.proofs.draw.draw.Goals as goal
 
@@ -14,3 +15,11 @@ pub draw_in-requires-clause-fit : goal.draw_in-requires-clause-fit
 draw_in-requires-clause-fit g c =
     let fits = memory g.P.Pixel.layout.count c.args.filter c.args.view c.args.rows c.args.source (length c.args.to.now) (length c.args.from.now) (length c.args.work.now) c.requires.memory in
     fits.rows.last
+
+pub draw_in-requires-clause-work : goal.draw_in-requires-clause-work
+draw_in-requires-clause-work g c =
+    let fits = memory g.P.Pixel.layout.count c.args.filter c.args.view c.args.rows c.args.source (length c.args.to.now) (length c.args.from.now) (length c.args.work.now) c.requires.memory in
+    let x = ap (λ (a : Axis). c.args.rows.width * a.taps) c.new-across.ensures.axis in
+    let y = ap (λ (a : Axis). a.taps) c.new-down.ensures.axis in
+    let z = ap (λ p. p * g.P.Pixel.layout.count) c.new-across.ensures.places in
+    omega (arith, fits.work, x, y, z)

@@ -2,8 +2,8 @@ use Rattle.std.proofs.Common.{◌≡◌, ℕ, ◌+◌, ◌*◌, ◌^◌, ◌<◌
 use Rattle.std.proofs.Math.Nat.{mul-le-mul_right}
 use Rattle.pix_scale.specs.Totals.{total, tap}
 use Rattle.pix_scale.specs.Axis.{axis_of}
-use Rattle.pix_scale.specs.Table.{taps_of, side_axis, side_taps, IsTable}
-use Rattle.pix_scale.proofs.Tables.{row_total, table_total}
+use Rattle.pix_scale.specs.Table.{side_axis, IsTable}
+use Rattle.pix_scale.proofs.Tables.{row_total}
 use Rattle.pix_scale.proofs.Draws.{whole_some, taps_some, factor_small, rows_lie}
 use Rattle.pix_scale.proofs.draw.draw_row.Goals as goal
 
@@ -24,7 +24,7 @@ scale_row-requires-clause-fits g c = λ i lt.
     let taps = c.taps-taps.result in
     let all : total taps (tap ws taps i) ≡ (side_axis x).whole =
     ap (λ t. total t (tap ws t i)) c.taps-taps.ensures.value
-    ∙ table_total x.kernel x.places c.args.view.across x.n x.m c.args.view.left i c.args.firsts.now ws (side_taps x) c.requires.sides.across_side (omega arith) c.requires.table lt in
+    ∙ row_total x.kernel x.places c.args.view.across x.n x.m (c.args.view.left + i) (slice_index c.args.firsts.now i) (side_axis x).taps (tap ws (side_axis x).taps i) c.requires.sides.across_side (omega arith) (c.requires.table i lt) in
     let small = factor_small (side_axis x).whole (side_axis y).whole (2 ^ 31) (whole_some y.kernel y.places c.args.view.down y.n y.m c.requires.sides.down_side) c.requires.sides.wholes_fit in
     omega (arith, all, small)
 
@@ -37,13 +37,13 @@ scale_row-requires-clause-down_some g c =
 pub scale_row-requires-clause-down_inside : goal.scale_row-requires-clause-down_inside
 scale_row-requires-clause-down_inside g c =
     let y = c.args.down in
-    rows_lie y.kernel y.places c.args.view.down y.n y.m c.args.y c.weigh-first.result c.args.stride c.args.high (length c.args.from.now) c.weigh-first.new.row
+    rows_lie y.kernel y.places c.args.view.down y.n y.m c.args.y c.weigh-first.result c.args.stride c.args.high (length c.args.from.now) (length c.weigh-first.new.row) (slice_index c.weigh-first.new.row)
     c.weigh-first.ensures.row (λ v lt. omega (arith, c.requires.sides.source v lt, c.requires.within))
 
 pub scale_row-requires-clause-down_fits : goal.scale_row-requires-clause-down_fits
 scale_row-requires-clause-down_fits g c =
     let y = c.args.down in
-    let all = row_total y.kernel y.places c.args.view.down y.n y.m c.args.y c.weigh-first.result c.weigh-first.new.row c.requires.sides.down_side c.requires.y c.weigh-first.ensures.row in
+    let all = row_total y.kernel y.places c.args.view.down y.n y.m c.args.y c.weigh-first.result (length c.weigh-first.new.row) (slice_index c.weigh-first.new.row) c.requires.sides.down_side c.requires.y c.weigh-first.ensures.row in
     omega (arith, ap (λ w. w * g.P.Chan.Channel.max) all, c.requires.sides.column_fits)
 
 pub scale_row-requires-clause-bound : goal.scale_row-requires-clause-bound
@@ -54,8 +54,8 @@ scale_row-requires-clause-bound g c = λ i lt.
     let taps = c.taps-taps.result in
     let columns : total taps (tap ws taps i) ≡ (side_axis x).whole =
     ap (λ t. total t (tap ws t i)) c.taps-taps.ensures.value
-    ∙ table_total x.kernel x.places c.args.view.across x.n x.m c.args.view.left i c.args.firsts.now ws (side_taps x) c.requires.sides.across_side (omega arith) c.requires.table lt in
-    let rows = row_total y.kernel y.places c.args.view.down y.n y.m c.args.y c.weigh-first.result c.weigh-first.new.row c.requires.sides.down_side c.requires.y c.weigh-first.ensures.row in
+    ∙ row_total x.kernel x.places c.args.view.across x.n x.m (c.args.view.left + i) (slice_index c.args.firsts.now i) (side_axis x).taps (tap ws (side_axis x).taps i) c.requires.sides.across_side (omega arith) (c.requires.table i lt) in
+    let rows = row_total y.kernel y.places c.args.view.down y.n y.m c.args.y c.weigh-first.result (length c.weigh-first.new.row) (slice_index c.weigh-first.new.row) c.requires.sides.down_side c.requires.y c.weigh-first.ensures.row in
     rw (columns, rows) (omega (arith, c.requires.by))
 
 pub returns : goal.returns

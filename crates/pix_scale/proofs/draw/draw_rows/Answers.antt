@@ -32,8 +32,8 @@ loop-y-preserved g c =
     let fit = c.requires.fit y (omega arith) in
     let size = length_part c.loop-y.to (y * stride) k (omega (arith, fit)) in
     let at : c.from-in-loop-y.result + c.from-in-loop-y-2.result ≡ c.args.view.top + y = omega (arith, c.from-in-loop-y.ensures, c.from-in-loop-y-2.ensures) in
-    let f : ℕ → ℕ → ℕ → ℕ = λ x j ch. scaled g.P.Chan.Channel.max (side_axis c.args.across) (side_axis c.args.down) (channel_at (map r c.args.from.now) c.args.stride ch) (c.args.view.left + x) (c.args.view.top + j) in
+    let f : ℕ → ℕ → ℕ → ℕ = λ x j ch. scaled g.P.Chan.Channel.max (side_axis c.args.across) (side_axis c.args.down) (channel_at (map r c.args.from.now) c.args.source.stride ch) (c.args.view.left + x) (c.args.view.top + j) in
     rows_more r (map r c.args.to.now) c.loop-y.to c.draw_row.new.to width stride count f y k c.requires.apart (omega (arith, fit))
     (omega (arith, c.draw_row.auto.to, size)) (omega arith) c.loop-y.invariant
     (λ x ch lx lc. c.draw_row.ensures x ch (omega (arith, c.requires.firsts, lx)) lc
-    ∙ ap (λ z. scaled g.P.Chan.Channel.max (side_axis c.args.across) (side_axis c.args.down) (channel_at (map r c.args.from.now) c.args.stride ch) (c.args.view.left + x) z) at)
+    ∙ ap (λ z. scaled g.P.Chan.Channel.max (side_axis c.args.across) (side_axis c.args.down) (channel_at (map r c.args.from.now) c.args.source.stride ch) (c.args.view.left + x) z) at)

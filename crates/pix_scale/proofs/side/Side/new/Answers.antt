@@ -1,6 +1,5 @@
 use Rattle.std.proofs.Common.{◌/◌, arith, ap, sym, ◌∙◌}
 use Rattle.pix_scale.specs.Axis.{axis_of, kernel_of, lowest}
-use Rattle.pix_scale.specs.Table.{taps_of}
 use Rattle.pix_scale.specs.declared.filter.Kernel.{Kernel}
 use Rattle.std.proofs.Math.Nat.{div-mul_cancel}
 use Rattle.std.proofs.lemmas.Nat.Gcd.{IsGcd-swap}
@@ -35,11 +34,3 @@ returns-clause-axis c =
     ap (λ (k : Kernel). axis_of k c.args.n (c.args.n / c.gcd-by.result) (c.args.m / c.gcd-by.result)) c.kernel_of.ensures
     ∙ ap (λ a. axis_of (kernel_of c.args.filter c.args.n c.args.m) c.args.n a (c.args.m / c.gcd-by.result)) e
     ∙ ap (λ b. axis_of (kernel_of c.args.filter c.args.n c.args.m) c.args.n (lowest c.args.n c.args.m) b) f
-
-pub returns-clause-taps : goal.returns-clause-taps
-returns-clause-taps c =
-    let e = lowest_is c.args.n c.args.m c.gcd-by.result c.requires.n c.requires.m c.gcd-by.ensures.some c.gcd-by.ensures.divides in
-    let f = lowest_is c.args.m c.args.n c.gcd-by.result c.requires.m c.requires.n c.gcd-by.ensures.some (IsGcd-swap c.args.n c.args.m c.gcd-by.result c.gcd-by.ensures.divides) in
-    ap (λ (k : Kernel). taps_of k c.args.n (c.args.n / c.gcd-by.result) (c.args.m / c.gcd-by.result)) c.kernel_of.ensures
-    ∙ ap (λ a. taps_of (kernel_of c.args.filter c.args.n c.args.m) c.args.n a (c.args.m / c.gcd-by.result)) e
-    ∙ ap (λ b. taps_of (kernel_of c.args.filter c.args.n c.args.m) c.args.n (lowest c.args.n c.args.m) b) f
