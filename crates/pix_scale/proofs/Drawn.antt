@@ -4,10 +4,8 @@ use borrow.Rule.Slice.PartMut.{put_mid}
 use Rattle.std.proofs.Math.Nat.{mul-le-mul_left}
 use Rattle.std.proofs.lemmas.List.{drop-map, get_or-drop, take_all, length-drop}
 use Rattle.std.proofs.lemmas.Nat.{mul-add-lt}
-use Rattle.pix_scale.specs.Totals.{total, flat, row_term, pixel_term, tap}
-use Rattle.pix_scale.specs.Axis.{Axis}
-use Rattle.pix_scale.specs.Table.{IsRow}
-use Rattle.pix_scale.specs.Scale.{channel_at}
+use Rattle.pix_scale.specs.Axis.{total, Axis, channel_at}
+use Rattle.pix_scale.specs.Table.{flat, row_term, pixel_term, tap, IsRow}
 use Rattle.pix_scale.proofs.Places.{column}
 use Rattle.pix_scale.proofs.Sums.{total_le, total_times}
 use Rattle.pix_scale.proofs.Parts.{in_part}

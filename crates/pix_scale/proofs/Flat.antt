@@ -5,7 +5,7 @@ use Rattle.std.proofs.Math.Nat.{mul-add-div_right, mul-add-mod_self_right}
 use Rattle.std.proofs.lemmas.Bool.{cases_lt}
 use Rattle.std.proofs.lemmas.List.{take-map, drop-map, get_or-take, get_or-drop, get_or-map}
 use Rattle.std.proofs.lemmas.Nat.{div_below, div-mul-add, mod-mul-add}
-use Rattle.pix_scale.specs.Totals.{flat}
+use Rattle.pix_scale.specs.Table.{flat}
 use Rattle.pix_scale.proofs.Terms.{Added}
 use Rattle.pix_scale.proofs.Parts.{before_part, in_part, after_part}
 

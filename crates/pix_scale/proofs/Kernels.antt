@@ -5,10 +5,9 @@ use Rattle.std.specs.Int.{abs_diff}
 use Rattle.std.proofs.Math.Nat.{mul-le-mul_right, mul-le-mul_left, div-mul-le_self, lt-mul-div-succ}
 use Rattle.std.proofs.lemmas.Nat.{div_below, le-div}
 use Rattle.std.proofs.lemmas.Bool.{cases_lt, cases_eq, eq-eqb, ne_eqb}
-use Rattle.pix_scale.specs.Totals.{total}
-use Rattle.pix_scale.proofs.Places.{only, before, nearest_place}
-use Rattle.pix_scale.specs.Axis.{overlap, held, nearness, rounded_part, mark, axis_of}
+use Rattle.pix_scale.specs.Axis.{total, overlap, held, nearness, rounded_part, mark, axis_of}
 use Rattle.pix_scale.specs.Table.{start_of, first_of, IsSide}
+use Rattle.pix_scale.proofs.Places.{only, before, nearest_place}
 use Rattle.pix_scale.specs.declared.filter.Kernel.{Kernel}
 use Rattle.pix_scale.specs.declared.filter.Kernel.TheVariants.{Point, Box, Line, Triangle}
 use Rattle.pix_scale.proofs.Windows.{total_part}

@@ -1,7 +1,6 @@
 -- Places of a side.
 use Rattle.std.specs.Prelude.{ℕ, ◌+◌, ◌-◌, ◌*◌, ◌/◌, min, nat_eq, if◌then◌else◌}
-use Rattle.pix_scale.specs.Totals.{total}
-use Rattle.pix_scale.specs.Axis.{Axis}
+use Rattle.pix_scale.specs.Axis.{total, Axis}
 
 -- 1 for a place itself, and 0 for any other
 abbrev pub only : ℕ → ℕ → ℕ

@@ -8,11 +8,9 @@ use Rattle.std.proofs.lemmas.Nat.{div_below, le-div}
 use Rattle.std.proofs.lemmas.Nat.Gcd.{IsGcd-swap, IsGcd-from_mod, IsGcd-from_zero}
 use Rattle.pix_chan.specs.Nearest.{nearest}
 use Rattle.pix_chan.specs.NearestLaws.{nearest_natural}
-use Rattle.pix_scale.specs.Totals.{total}
-use Rattle.pix_scale.specs.Axis.{Axis, axis_of, kernel_of, lowest}
+use Rattle.pix_scale.specs.Axis.{total, Axis, IsAxis, axis_of, kernel_of, lowest, axis, scaled}
 use Rattle.pix_scale.specs.Table.{IsSide}
 use Rattle.pix_scale.proofs.Places.{column}
-use Rattle.pix_scale.specs.Laws.{AddsUp, KeepsOrder, KeepsValue}
 use Rattle.pix_scale.specs.declared.filter.Filter.{Filter}
 use Rattle.pix_scale.proofs.Draws.{whole_some}
 use Rattle.pix_scale.proofs.Kernels.{adds_up}
@@ -62,7 +60,9 @@ nearest_whole max a d p h =
     let hi : (2 * (d * a) + d) / (2 * d) < suc a = div_below (2 * (d * a) + d) (2 * d) (suc a) two (omega arith) in
     rw (nearest_natural max (d * a) d) (omega (arith, lo, hi))
 
-pub scaled_le : KeepsOrder
+pub scaled_le : (max : ℕ) (across down : Axis) (f g : ℕ → ℕ → ℕ) (x y : ℕ) → 0 < across.whole * down.whole
+    → ((u v : ℕ) → u < across.places → v < down.places → f u v ≤ g u v)
+    → scaled max across down f x y ≤ scaled max across down g x y
 unfolding whole_sum
 scaled_le max across down f g x y p h =
     nearest_le max (whole_sum across down f x y) (whole_sum across down g x y) (across.whole * down.whole) p (whole_le across down f g x y h)
@@ -70,7 +70,8 @@ scaled_le max across down f g x y p h =
 pub positive : (a b : ℕ) → 0 < a → 0 < b → 0 < a * b
 positive a b p q = let k : 1 * 1 ≤ a * b = mul-le-mul p q in omega (arith, k)
 
-pub scaled_const : KeepsValue
+pub scaled_const : (max : ℕ) (across down : Axis) (width height x y a : ℕ) → IsAxis across width → IsAxis down height
+    → x < width → y < height → a ≤ max → scaled max across down (λ u v. a) x y ≡ a
 unfolding whole_sum
 scaled_const max across down width height x y a r s lx ly h =
     ap (λ s. nearest max (pos s) (pos (across.whole * down.whole))) (whole_const across down x y a (r.adds_up x lx) (s.adds_up y ly))
@@ -102,7 +103,7 @@ side_of filter n m p q few =
     subst (λ b. IsSide (kernel_of filter n m) n m (lowest n m) b) f
     (subst (λ a. IsSide (kernel_of filter n m) n m a (m / g.divisor)) e side)
 
-pub filters_add_up : AddsUp
+pub filters_add_up : (filter : Filter) (n m : ℕ) → 0 < n → 0 < m → n ≤ 65535 → IsAxis (axis filter n m) m
 filters_add_up filter n m p q few =
     let kernel = kernel_of filter n m in
     let side = side_of filter n m p q few in

@@ -8,10 +8,7 @@ use Rattle.std.proofs.lemmas.Bool.{cases_lt, le-leb}
 use Rattle.std.proofs.lemmas.Nat.{div_below}
 use Rattle.std.proofs.lemmas.Nat.Gcd.{IsGcd-swap}
 use Rattle.pix_chan.specs.Nearest.{nearest}
-use Rattle.pix_scale.specs.Totals.{total}
-use Rattle.pix_scale.specs.Axis.{Axis, axis, axis_of, kernel_of, lowest, overlap, held}
-use Rattle.pix_scale.specs.Scale.{scaled}
-use Rattle.pix_scale.specs.Laws.{KeepsSize, Repeats}
+use Rattle.pix_scale.specs.Axis.{total, Axis, axis, axis_of, kernel_of, lowest, overlap, held, scaled}
 use Rattle.pix_scale.specs.declared.filter.Filter.{Filter}
 use Rattle.pix_scale.specs.declared.filter.Filter.TheVariants.{Nearest, Area, Linear}
 use Rattle.pix_scale.specs.declared.filter.Kernel.{Kernel}
@@ -114,7 +111,8 @@ times_one n k i lt =
     subst (λ m. One (axis_of Point n (lowest n (k * n)) m) i (i / k)) (sym (factor n k p (omega arith)))
     (subst (λ l. One (axis_of Point n l k) i (i / k)) (sym (least n k p (omega arith))) (point_one n k i (some_factor n k i lt) lt))
 
-pub scaled_times : Repeats
+pub scaled_times : (max k l width height : ℕ) (f : ℕ → ℕ → ℕ) (x y : ℕ) → x < k * width → y < l * height → f (x / k) (y / l) ≤ max
+    → scaled max (axis Nearest width (k * width)) (axis Nearest height (l * height)) f x y ≡ f (x / k) (y / l)
 scaled_times max k l width height f x y lx ly h =
     one_scaled max (axis Nearest width (k * width)) (axis Nearest height (l * height)) f x y (x / k) (y / l) (times_one width k x lx) (times_one height l y ly) h
 
@@ -142,6 +140,7 @@ own_one : (filter : Filter) (n i : ℕ) → i < n → One (axis filter n n) i i
 own_one filter n i lt =
     subst (λ l. One (axis_of (kernel_of filter n n) n l l) i i) (sym (own n (omega arith))) (kernel_one (kernel_of filter n n) n i (own_kernel filter n) lt)
 
-pub scaled_own : KeepsSize
+pub scaled_own : (max : ℕ) (filter : Filter) (width height : ℕ) (f : ℕ → ℕ → ℕ) (x y : ℕ) → x < width → y < height → f x y ≤ max
+    → scaled max (axis filter width width) (axis filter height height) f x y ≡ f x y
 scaled_own max filter width height f x y lx ly h =
     one_scaled max (axis filter width width) (axis filter height height) f x y x y (own_one filter width x lx) (own_one filter height y ly) h

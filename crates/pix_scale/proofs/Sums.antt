@@ -4,7 +4,8 @@ use Rattle.std.proofs.lemmas.List.{take-map, drop-map, get_or-take, get_or-drop,
 use Rattle.std.proofs.lemmas.Nat.{mul-add-lt}
 use Rattle.std.proofs.Math.Nat.{mul-le-mul_left, mul-le-mul_right}
 use Rattle.std.proofs.lemmas.Bool.{cases_lt}
-use Rattle.pix_scale.specs.Totals.{total, row_term, pixel_term, tap}
+use Rattle.pix_scale.specs.Axis.{total}
+use Rattle.pix_scale.specs.Table.{row_term, pixel_term, tap}
 
 pub total_next : (n : ℕ) (f : ℕ → ℕ) → total (n + 1) f ≡ total n f + f n
 total_next n f = rw add-one refl

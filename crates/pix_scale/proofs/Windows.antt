@@ -1,9 +1,8 @@
 -- Sums by tables are sums over all places.
 use Rattle.std.proofs.Common.{◌≡◌, ℕ, zero, suc, ◌+◌, ◌-◌, ◌*◌, ◌<◌, ◌≤◌, List, length, get_or, take, drop, slice_index, arith, refl, sym, ap, ◌∙◌}
 use Rattle.std.proofs.lemmas.List.{get_or-drop, length-take, length-drop, take_all}
-use Rattle.pix_scale.specs.Totals.{total, row_term, pixel_term}
-use Rattle.pix_scale.specs.Axis.{Axis}
-use Rattle.pix_scale.specs.Table.{IsRow, IsTable}
+use Rattle.pix_scale.specs.Axis.{total, Axis}
+use Rattle.pix_scale.specs.Table.{row_term, pixel_term, IsRow, IsTable}
 use Rattle.pix_scale.proofs.Places.{column}
 use Rattle.pix_scale.proofs.Sums.{total_same, at_of_part, length_part}
 

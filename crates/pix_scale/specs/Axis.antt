@@ -1,12 +1,17 @@
--- One side of a picture at another size: how much each place of it counts for each place of the
--- new side.
-use Rattle.std.specs.Prelude.{◌≡◌, ℕ, zero, suc, ◌+◌, ◌-◌, ◌*◌, ◌/◌, ◌%◌, ◌<◌, ◌&&◌, nat_eq, nat_le, min, max, if◌then◌else◌}
+-- A picture at another size: how much each place of a side counts for each place of the new side,
+-- and what the new pixels are.
+use Rattle.std.specs.Prelude.{◌≡◌, ℕ, zero, suc, pos, ◌+◌, ◌-◌, ◌*◌, ◌/◌, ◌%◌, ◌<◌, ◌&&◌, nat_eq, nat_le, min, max, List, [], slice_index, slice_index_or, if◌then◌else◌}
 use Rattle.std.specs.Int.{abs_diff}
-use Rattle.pix_scale.specs.Totals.{total}
+use Rattle.pix_chan.specs.Nearest.{nearest}
 use Rattle.pix_scale.specs.declared.filter.Filter.{Filter}
 use Rattle.pix_scale.specs.declared.filter.Filter.TheVariants.{Nearest, Area, Linear}
 use Rattle.pix_scale.specs.declared.filter.Kernel.{Kernel}
 use Rattle.pix_scale.specs.declared.filter.Kernel.TheVariants.{Point, Box, Line, Triangle}
+
+-- f 0 + f 1 + .. + f (n - 1)
+abbrev pub total : ℕ → (ℕ → ℕ) → ℕ
+total zero f = 0
+total (suc n) f = total n f + f n
 
 -- how many places a side has, what place j counts for place i of the new side, what all of them
 -- count together, and how many count something, at most
@@ -33,8 +38,7 @@ lowest n m = n / common (min n m) n m
 -- In what follows n places become m, both divided by their greatest common divisor. Place j of the
 -- old side begins at j * m and is m long, and place i of the new one begins at i * n and is n long.
 
--- areas: the part of place i that lies in place j, which is what lies before its end less what lies
--- before it
+-- areas: the part of place i that lies in place j
 abbrev pub overlap : ℕ → ℕ → ℕ → ℕ → ℕ
 overlap n m i j = min n ((j + 1) * m - i * n) - min n (j * m - i * n)
 
@@ -54,8 +58,8 @@ rounded_part part sum = (2 * (part * 32768) + sum) / (2 * sum)
 abbrev pub mark : (places n m i j : ℕ) → ℕ
 mark places n m i j = rounded_part (total j (nearness n m i)) (total places (nearness n m i))
 
--- the kernels: the place in which the middle lies, of two the later; areas; the two nearest middles,
--- each the more the nearer it is; and all middles nearer than an old place is long
+-- the kernels: the place with the middle, of two the later; areas; the two nearest middles, each the
+-- more the nearer it is; and all middles nearer than an old place is long
 abbrev pub axis_of : Kernel → (places n m : ℕ) → Axis
 axis_of Point places n m = record { places = places; weight = λ i j. if nat_eq j ((2 * i + 1) * n / (2 * m)) then 1 else 0; whole = 1; taps = min places 1 }
 axis_of Box places n m = record { places = places; weight = overlap n m; whole = n; taps = min places ((n + 2 * m - 2) / m) }
@@ -71,3 +75,13 @@ kernel_of Linear n m = if nat_le n m then Line else Triangle
 -- a side of n places that become m, by a filter
 abbrev pub axis : Filter → ℕ → ℕ → Axis
 axis filter n m = axis_of (kernel_of filter n m) n (lowest n m) (lowest m n)
+
+-- the channel at the point (x, y) of the new picture: the mean of those of the old one, get u v at
+-- the point (u, v), by the weights of both sides, rounded once to the nearest, ties up
+abbrev pub scaled : ℕ → Axis → Axis → (ℕ → ℕ → ℕ) → ℕ → ℕ → ℕ
+scaled max across down get x y =
+    nearest max (pos (total across.places (λ u. across.weight x u * total down.places (λ v. down.weight y v * get u v)))) (pos (across.whole * down.whole))
+
+-- channel c at the point (u, v) of pixels whose rows begin a stride apart
+abbrev pub channel_at : List (List ℕ) → ℕ → ℕ → ℕ → ℕ → ℕ
+channel_at pixels stride c u v = slice_index (slice_index_or pixels (v * stride + u) []) c

@@ -1,8 +1,7 @@
 -- The call that draws a window of a picture at another size: what it refuses, and what it writes.
 use Rattle.std.specs.Prelude.{◌≡◌, ◌≢◌, ℕ, ◌+◌, ◌-◌, ◌*◌, ◌^◌, ◌<◌, List, [], map, slice_index_or, Bool, ◌&&◌, ◌||◌, nat_eq, nat_lt, nat_le, Option, Some, None, if◌then◌else◌}
 use Rattle.std.specs.Option.{option_or}
-use Rattle.pix_scale.specs.Axis.{Axis, axis}
-use Rattle.pix_scale.specs.Scale.{scaled, channel_at}
+use Rattle.pix_scale.specs.Axis.{Axis, axis, scaled, channel_at}
 use Rattle.pix_scale.specs.declared.filter.Filter.{Filter}
 use Rattle.pix_scale.specs.declared.shape.Rows.{Rows}
 use Rattle.pix_scale.specs.declared.shape.View.{View}
@@ -22,8 +21,8 @@ words count filter view to from =
 abbrev pub unless : Bool → ScaleFault → Option ScaleFault → Option ScaleFault
 unless test fault rest = if test then rest else Some fault
 
--- the first that is wrong with the sizes, if any: no side is 0, the source is small, a column's sums
--- fit 32 bits, and both wholes 31 bits together
+-- the first that is wrong with the sizes, if any: no side is 0, the source is small, the sums of a
+-- column fit 32 bits, and both wholes 31 bits together
 abbrev pub size_fault : ℕ → Filter → View → Rows → Option ScaleFault
 size_fault top filter view from =
     unless ((nat_lt 0 from.width && nat_lt 0 from.height) && (nat_lt 0 view.across && nat_lt 0 view.down)) NoSide

@@ -1,8 +1,7 @@
 //! The rows of a window of a picture at another size.
 ghost use Rattle.std.specs.Prelude.{◌≡◌, ◌≢◌, ℕ, ◌+◌, ◌*◌, ◌^◌, ◌<◌, ◌≤◌, List, [], length, map, slice_index, slice_index_or};
-ghost use Rattle.pix_scale.specs.Axis.{axis};
+ghost use Rattle.pix_scale.specs.Axis.{axis, scaled, channel_at};
 ghost use Rattle.pix_scale.specs.Table.{side_axis, AreSides, IsTable};
-ghost use Rattle.pix_scale.specs.Scale.{scaled, channel_at};
 ghost use Rattle.pix_scale.specs.Call.{size_fault, memory_fault, IsScaled};
 
 use crate::filter::Filter;

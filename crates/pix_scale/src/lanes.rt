@@ -1,6 +1,7 @@
 //! Sums of pixels of four channels, on lanes.
 ghost use Rattle.std.specs.Prelude.{◌≡◌, ℕ, ◌+◌, ◌*◌, ◌^◌, ◌<◌, ◌≤◌, length, slice_index};
-ghost use Rattle.pix_scale.specs.Totals.{total, row_term};
+ghost use Rattle.pix_scale.specs.Axis.{total};
+ghost use Rattle.pix_scale.specs.Table.{row_term};
 
 use std::simd::prelude::*;
 

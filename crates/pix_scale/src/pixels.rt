@@ -1,7 +1,8 @@
 //! Channels of new pixels, from weighted sums of columns.
 ghost use Rattle.std.specs.Prelude.{◌≡◌, ℕ, ◌+◌, ◌*◌, ◌^◌, ◌<◌, ◌≤◌, length, map, slice_index, pos};
 ghost use Rattle.pix_chan.specs.Nearest.{nearest};
-ghost use Rattle.pix_scale.specs.Totals.{total, row_term};
+ghost use Rattle.pix_scale.specs.Axis.{total};
+ghost use Rattle.pix_scale.specs.Table.{row_term};
 
 use crate::lanes::{sum_lanes, sum_narrow};
 use crate::rounding::Divisor;

@@ -1,10 +1,8 @@
 //! A row of a picture at another size.
 ghost use Rattle.std.specs.Prelude.{◌≡◌, ℕ, ◌+◌, ◌*◌, ◌^◌, ◌<◌, ◌≤◌, List, [], length, map, slice_index, slice_index_or, pos};
 ghost use Rattle.pix_chan.specs.Nearest.{nearest};
-ghost use Rattle.pix_scale.specs.Totals.{total, row_term, pixel_term, tap};
-ghost use Rattle.pix_scale.specs.Axis.{Axis};
-ghost use Rattle.pix_scale.specs.Table.{IsRow, IsTable};
-ghost use Rattle.pix_scale.specs.Scale.{scaled, channel_at};
+ghost use Rattle.pix_scale.specs.Axis.{total, Axis, scaled, channel_at};
+ghost use Rattle.pix_scale.specs.Table.{row_term, pixel_term, tap, IsRow, IsTable};
 
 use crate::pixels::write_pixel;
 use crate::rounding::Divisor;

@@ -1,6 +1,7 @@
 //! Weighted sums of rows.
 ghost use Rattle.std.specs.Prelude.{◌≡◌, ℕ, ◌+◌, ◌*◌, ◌^◌, ◌<◌, ◌≤◌, length, map, slice_index};
-ghost use Rattle.pix_scale.specs.Totals.{total, flat, row_term};
+ghost use Rattle.pix_scale.specs.Axis.{total};
+ghost use Rattle.pix_scale.specs.Table.{flat, row_term};
 
 use pix_chan::chan::Channel;
 use pix_el::el::Pixel;

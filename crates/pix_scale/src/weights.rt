@@ -1,8 +1,7 @@
 //! What the places of a side count for one place of the new side.
 ghost use Rattle.std.specs.Prelude.{◌≡◌, ℕ, ◌+◌, ◌-◌, ◌*◌, ◌/◌, ◌<◌, ◌≤◌, length, slice_index, if◌then◌else◌, nat_eq};
 ghost use Rattle.std.specs.Int.{abs_diff};
-ghost use Rattle.pix_scale.specs.Totals.{total};
-ghost use Rattle.pix_scale.specs.Axis.{axis_of, overlap, held, nearness, rounded_part};
+ghost use Rattle.pix_scale.specs.Axis.{total, axis_of, overlap, held, nearness, rounded_part};
 ghost use Rattle.pix_scale.specs.Table.{start_of, first_of, IsSide, IsRow};
 ghost use Rattle.pix_scale.specs.declared.filter.Kernel.TheVariants.{Point, Box, Line, Triangle};
 

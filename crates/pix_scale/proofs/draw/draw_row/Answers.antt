@@ -1,8 +1,7 @@
 use Rattle.std.proofs.Common.{◌≡◌, ℕ, ◌+◌, ◌*◌, ◌^◌, ◌<◌, ◌≤◌, length, slice_index, arith, sym, ap, subst, ◌∙◌}
 use Rattle.std.proofs.Math.Nat.{mul-le-mul_right}
-use Rattle.pix_scale.specs.Totals.{total, tap}
-use Rattle.pix_scale.specs.Axis.{axis_of}
-use Rattle.pix_scale.specs.Table.{side_axis, IsTable}
+use Rattle.pix_scale.specs.Axis.{total, axis_of}
+use Rattle.pix_scale.specs.Table.{tap, side_axis, IsTable}
 use Rattle.pix_scale.proofs.Tables.{row_total}
 use Rattle.pix_scale.proofs.Draws.{whole_some, taps_some, factor_small, rows_lie}
 use Rattle.pix_scale.proofs.draw.draw_row.Goals as goal

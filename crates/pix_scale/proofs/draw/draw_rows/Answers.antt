@@ -1,8 +1,8 @@
 use Rattle.std.proofs.Common.{◌≡◌, ℕ, ◌+◌, ◌-◌, ◌*◌, ◌<◌, ◌≤◌, length, map, arith, rules, ap, ◌∙◌}
 use borrow.Author.Rules.{scaled_fits≤}
 use Rattle.pix_scale.proofs.Sums.{length_part}
+use Rattle.pix_scale.specs.Axis.{scaled, channel_at}
 use Rattle.pix_scale.specs.Table.{side_axis}
-use Rattle.pix_scale.specs.Scale.{scaled, channel_at}
 use Rattle.pix_scale.proofs.Written.{rows_none, rows_more}
 use Rattle.pix_scale.proofs.draw.draw_rows.Goals as goal
 

@@ -1,7 +1,7 @@
 -- What holds at each turn of the loop over `y` in `draw_rows`.
 use Rattle.std.proofs.Common.{◌+◌, map}
+use Rattle.pix_scale.specs.Axis.{scaled, channel_at}
 use Rattle.pix_scale.specs.Table.{side_axis}
-use Rattle.pix_scale.specs.Scale.{scaled, channel_at}
 use Rattle.pix_scale.proofs.Written.{Rows}
 use Rattle.pix_scale.proofs.draw.draw_rows.Given as goal
 

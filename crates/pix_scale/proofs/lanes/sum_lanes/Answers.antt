@@ -1,5 +1,6 @@
 use Rattle.std.proofs.Common.{slice_index, ◌*◌, ◌^◌, arith, rules, ap, ◌∙◌}
-use Rattle.pix_scale.specs.Totals.{total, row_term}
+use Rattle.pix_scale.specs.Axis.{total}
+use Rattle.pix_scale.specs.Table.{row_term}
 use Rattle.pix_scale.proofs.Sums.{room, summed_more, below_32, at_of_part}
 use Rattle.pix_scale.proofs.LaneSums.{lanes_none}
 use Rattle.pix_scale.proofs.lanes.sum_lanes.Goals as goal

@@ -2,7 +2,8 @@ use Rattle.std.specs.Prelude.{pos}
 use Rattle.std.proofs.Common.{◌≡◌, ℕ, length, map, get_or, take, replicate, slice_index, arith, refl, ap, ◌∙◌}
 use Rattle.std.proofs.lemmas.List.{length-take}
 use Rattle.pix_chan.specs.Nearest.{nearest}
-use Rattle.pix_scale.specs.Totals.{total, row_term}
+use Rattle.pix_scale.specs.Axis.{total}
+use Rattle.pix_scale.specs.Table.{row_term}
 use Rattle.pix_scale.proofs.Written.{first_channels}
 use Rattle.pix_scale.proofs.row.new_pixel.Goals as goal
 

@@ -5,8 +5,8 @@ use Rattle.std.proofs.Math.Nat.{mul-le-mul_right}
 use Rattle.std.proofs.lemmas.Nat.{mul-add-lt}
 use Rattle.pix_el.specs.Pixel.{Layout}
 use Rattle.pix_chan.specs.Nearest.{nearest}
-use Rattle.pix_scale.specs.Totals.{total, tap, flat, row_term}
-use Rattle.pix_scale.specs.Scale.{channel_at}
+use Rattle.pix_scale.specs.Axis.{total, channel_at}
+use Rattle.pix_scale.specs.Table.{tap, flat, row_term}
 use Rattle.pix_scale.proofs.Places.{column}
 use Rattle.pix_scale.proofs.Sums.{sum_small, length_part}
 use Rattle.pix_scale.proofs.Drawn.{sub_times, in_sums, sums_read, pixel_small_at}

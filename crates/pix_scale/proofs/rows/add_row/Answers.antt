@@ -2,7 +2,7 @@ use Rattle.std.proofs.Common.{◌≡◌, ℕ, suc, ◌+◌, ◌-◌, ◌*◌, �
 use borrow.Rule.Slice.PartMut.{put_mid}
 use Rattle.std.proofs.lemmas.Nat.{row_fits}
 use Rattle.pix_scale.proofs.Sums.{length_part, at_of_part}
-use Rattle.pix_scale.specs.Totals.{flat}
+use Rattle.pix_scale.specs.Table.{flat}
 use Rattle.pix_scale.proofs.Terms.{Added}
 use Rattle.pix_scale.proofs.Flat.{added_part, added_start, channel_read}
 use Rattle.pix_scale.proofs.rows.add_row.Goals as goal

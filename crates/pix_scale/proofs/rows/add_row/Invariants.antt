@@ -1,6 +1,6 @@
 -- What holds at each turn of the loop over `i` in `add_row`.
 use Rattle.std.proofs.Common.{◌*◌, map}
-use Rattle.pix_scale.specs.Totals.{flat}
+use Rattle.pix_scale.specs.Table.{flat}
 use Rattle.pix_scale.proofs.Terms.{Added}
 use Rattle.pix_scale.proofs.rows.add_row.Given as goal
 

@@ -1,6 +1,6 @@
 use Rattle.std.proofs.Common.{◌≡◌, ℕ, ◌+◌, ◌-◌, ◌*◌, ◌<◌, length, map, arith, ap, ◌∙◌}
 use Rattle.pix_el.specs.Pixel.{Layout}
-use Rattle.pix_scale.specs.Totals.{flat}
+use Rattle.pix_scale.specs.Table.{flat}
 use Rattle.pix_scale.proofs.Sums.{room, summed_more}
 use Rattle.pix_scale.proofs.Flat.{flat_part, flat_small}
 use Rattle.pix_scale.proofs.rows.sum_rows.Goals as goal

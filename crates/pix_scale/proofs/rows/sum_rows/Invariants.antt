@@ -1,6 +1,6 @@
 -- What holds at each turn of the loop over `k` in `sum_rows`.
 use Rattle.std.proofs.Common.{◌*◌, map}
-use Rattle.pix_scale.specs.Totals.{flat}
+use Rattle.pix_scale.specs.Table.{flat}
 use Rattle.pix_scale.proofs.Sums.{Summed}
 use Rattle.pix_scale.proofs.rows.sum_rows.Given as goal
 

@@ -1,6 +1,5 @@
 use Rattle.std.proofs.Common.{◌≡◌, ℕ, arith, refl, length, ◌+◌, ◌-◌, ap, ◌∙◌}
-use Rattle.pix_scale.specs.Totals.{total}
-use Rattle.pix_scale.specs.Axis.{nearness, rounded_part}
+use Rattle.pix_scale.specs.Axis.{total, nearness, rounded_part}
 use Rattle.pix_scale.proofs.Sums.{total_next, total_longer}
 use Rattle.pix_scale.proofs.Terms.{made_none, made_more}
 use Rattle.pix_scale.proofs.weights.parts.Goals as goal

@@ -1,7 +1,6 @@
 -- What holds at each turn of the loop over `k` in `parts`.
 use Rattle.std.proofs.Common.{◌≡◌, ◌+◌, length}
-use Rattle.pix_scale.specs.Totals.{total}
-use Rattle.pix_scale.specs.Axis.{nearness}
+use Rattle.pix_scale.specs.Axis.{total, nearness}
 use Rattle.pix_scale.proofs.Terms.{Made}
 use Rattle.pix_scale.proofs.Kernels.{part_at}
 use Rattle.pix_scale.proofs.weights.parts.Given as goal

@@ -1,7 +1,6 @@
 -- What holds at each turn of the loop over `k` in `sum_nearness`.
 use Rattle.std.proofs.Common.{◌≡◌, ◌≤◌, ◌+◌, ◌*◌}
-use Rattle.pix_scale.specs.Totals.{total}
-use Rattle.pix_scale.specs.Axis.{nearness}
+use Rattle.pix_scale.specs.Axis.{total, nearness}
 use Rattle.pix_scale.proofs.weights.sum_nearness.Given as goal
 
 -- the sum has the places before k, and is small
