@@ -1,1 +1,2 @@
+pub mod Scale
 pub mod Table

@@ -10,6 +10,7 @@ mod diffuse;
 mod layout;
 mod refine;
 mod rgba;
+mod scale;
 mod status;
 mod table;
 mod window;
@@ -23,6 +24,10 @@ pub use crate::layout::pix_layout;
 pub use crate::rgba::{
     pix_raw_diffuse_indexed_rgba, pix_raw_look_up_rgba, pix_raw_map_indexed_rgba,
     pix_raw_quantize_rgba,
+};
+pub use crate::scale::{
+    BAD_FILTER, NO_SIDE, OUTSIDE, SMALL_WORK, TOO_LARGE, pix_raw_scale, pix_raw_scale_graya8,
+    pix_raw_scale_rgba16, pix_raw_scale_work,
 };
 pub use crate::status::{
     BAD_FORMAT, BAD_KIND, BAD_LENGTH, BAD_OP, BAD_REGION, BAD_SIZE, BAD_SOURCE, DONE,

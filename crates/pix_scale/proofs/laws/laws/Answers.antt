@@ -1,0 +1,6 @@
+use Rattle.pix_scale.proofs.ScaledLaws.{filters_add_up, scaled_le, scaled_const}
+use Rattle.pix_scale.proofs.Singles.{scaled_own, scaled_times}
+use Rattle.pix_scale.proofs.laws.laws.Goals as goal
+
+pub returns : goal.returns
+returns c = record { weights = filters_add_up; order = scaled_le; value = scaled_const; size = scaled_own; nearest = scaled_times }

@@ -1,0 +1,3 @@
+pub mod Axis
+pub mod Table
+pub mod Call
