@@ -10,9 +10,14 @@
 SHOWN_(pix_layout);
 SHOWN_(pix_raw_run);
 SHOWN_(pix_raw_run_window);
+SHOWN_(pix_raw_run_window_rgba16);
 SHOWN_(pix_raw_convert);
 SHOWN_(pix_raw_convert_bitmap);
 SHOWN_(pix_raw_format_size);
+SHOWN_(pix_raw_scale);
+SHOWN_(pix_raw_scale_rgba16);
+SHOWN_(pix_raw_scale_graya8);
+SHOWN_(pix_raw_scale_work);
 
 #include "other.c"
 
