@@ -83,6 +83,7 @@ def facts_module(header):
         "FACTS": facts(header),
         "KINDS": numbers(header, "kind"),
         "FORMATS": numbers(header, "format"),
+        "FILTERS": numbers(header, "filter"),
         "STATUSES": statuses(header),
         "OPERATORS": operators(header),
         "EXAMPLES": sorted(path.stem for path in EXAMPLES.glob("*.paint")),

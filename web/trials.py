@@ -398,6 +398,36 @@ def try_text(browser):
         wants("the color of whole letters", bytes([0xD0, 0x10, 0x3C, 255]) in {words[i : i + 4] for i in changed} or way == "linear", True)
 
 
+def middle_of(browser, name, side, count=64):
+    """Returns the bytes of so many rows and columns in the middle of a picture of this side, of which a canvas shows the middle."""
+    wide, high = (of(browser, name, each) for each in ("width", "height"))
+    data = canvas(browser, name)
+    x, y = ((side - count) // 2 - max(0, side - room) // 2 + max(0, room - side) // 2 for room in (wide, high))
+    return b"".join(data[4 * ((y + row) * wide + x) :][: 4 * count] for row in range(count))
+
+
+def try_sizes(browser):
+    """At its own size the picture is itself by each filter; at twice that nearest and area have each pixel twice, and linear hasn't; and made smaller they differ."""
+
+    def at(percent):
+        enter(browser, "size", str(percent))
+        return [middle_of(browser, f"sizes-{name}", 256 * percent // 100) for name in ("nearest", "area", "linear")]
+
+    browser.look(1280)
+    code = """{ const copy = Object.assign(document.createElement('canvas'), { width: 256, height: 256 }).getContext('2d');
+        copy.drawImage(document.getElementById('triangle'), 0, 0);
+        Array.from(copy.getImageData(96, 96, 64, 64).data) }"""
+    itself = bytes(browser.run(code))
+    wants("which pictures of its own size are the picture", [made == itself for made in at(100)], [True] * 3)
+    nearest, area, linear = at(200)
+    wants("whether pixels stay sharp", (nearest == area, area == linear), (True, False))
+    wants("the size that is said", of(browser, "size-said", "textContent"), "200 %")
+    seconds = b"".join(nearest[512 * row + 8 * column :][:4] for row in range(32) for column in range(32))
+    wants("whether each pixel is there twice", seconds == b"".join(itself[256 * row + 64 :][:128] for row in range(16, 48)), True)
+    nearest, area, _ = at(40)
+    wants("whether a pixel is the mean of what it covers", nearest == area, False)
+
+
 def try_library(browser):
     """A library of another version, with one fact more or of another field is refused."""
     code = """Promise.all([import('./pix/layout.js'), import('./pix/facts.js')]).then(([{ layoutOf }, { CALLS, FACTS }]) => {
@@ -490,7 +520,7 @@ def try_without_simd(browser):
 
 def wants_links(browser, is_loaded):
     """Each link at the top leads to something that is shown. What runs the library is shown where it is loaded, and else a sentence in its place."""
-    for part in ("operators", "scripts", "text"):
+    for part in ("operators", "scripts", "text", "sizes"):
         wants(f"whether what runs the library for {part} is shown", of(browser, f"{part}-part", "checkVisibility()"), is_loaded)
         wants(f"whether it is said for {part}", browser.run(f"document.querySelector('#{part} .absent').checkVisibility()"), not is_loaded)
     lost = browser.run("[...document.querySelectorAll('nav a, .absent a')].filter((it) => !document.querySelector(it.hash)?.checkVisibility()).map((it) => it.hash)")

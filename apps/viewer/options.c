@@ -16,7 +16,7 @@ static const char usage[] =
     "                  wheel=STEPS@X,Y, drag=DX,DY, WxH for another size of the window, or "
     "wait=MILLISECONDS\n"
     "  --save PNG      write what the window shows at the end\n"
-    "  --report        print a line for each painting: how much of the window was painted\n"
+    "  --report        print a line for each painting: how much of the window was painted, in how long\n"
     "  --help          print this\n"
     "\n"
     "  N, Space, PageDown      the next picture\n"

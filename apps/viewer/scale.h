@@ -1,4 +1,4 @@
-/* scale.h - pictures at other sizes, made by copies and sums of the library alone. */
+/* scale.h - pictures of their own, and windows of pictures at other sizes. */
 #ifndef SCALE_H
 #define SCALE_H
 
@@ -20,15 +20,8 @@ pix_view_rgba16 canvas_view(const canvas *it);
 void insist(pix_status status);
 void *insist_memory(void *memory);
 
-/* Makes a picture of squares of `times` by `times` pixels, one for each pixel of the source. */
-canvas scale_up(pix_view_rgba16 source, uint32_t times);
-
-/* Makes a picture whose pixels are the means of squares of `by` by `by` pixels. Where a side is no multiple of `by`,
- * its last pixels stand for those that are missing, too. */
-canvas scale_down(pix_view_rgba16 source, uint32_t by);
-
-/* Makes a picture of this size: each of its pixels is the mean of the part of the source that it covers, of parts of
- * pixels too. */
-canvas scale_to(pix_view_rgba16 source, uint32_t width, uint32_t height);
+/* Makes a window of a picture at the size `whole`: each of its pixels is the mean of the part of the source that it
+ * covers, of parts of pixels too. */
+canvas scale_window(pix_view_rgba16 source, pix_size whole, pix_region window);
 
 #endif

@@ -24,7 +24,7 @@ from trial import PICTURES, PROGRAMS, Image, Trial, main, open_picture  # noqa: 
 
 GROUND, LIGHT, DARK, CELL = (40, 40, 44, 255), (204, 204, 204, 255), (153, 153, 153, 255), 16
 LEAF, LAKE = PICTURES / "leaf.png", PICTURES / "lake.jpg"
-REPORT = re.compile(r"(\d+) x (\d+), zoom (1/)?(\d+|exact), at (-?\d+),(-?\d+): painted (\d+) of (\d+) pixels")
+REPORT = re.compile(r"(\d+) x (\d+), zoom (1/)?(\d+|exact), at (-?\d+),(-?\d+): painted (\d+) of (\d+) pixels, \d+\.\d ms")
 
 
 def board(width, height):
@@ -123,20 +123,13 @@ class Viewer(Trial):
             self.assert_same(picture, noisy.resize(picture.size, Image.NEAREST))
 
     def test_made_smaller(self):
-        """Squares become the mean of their light, where the last line stands for those that are missing."""
+        """Each pixel is the mean light of what it covers."""
         for width, height, zoom in ((24, 15, 3), (23, 16, 2), (50, 31, 7)):
             noisy = self.noisy(width, height)
             size = (-(-width // zoom), -(-height // zoom))
             picture, places = self.shown(self.picture("noisy.png", noisy), size)
             self.assertEqual(places[-1], ([*size, 0, 0, size[0] * size[1]], -zoom))
-            wanted = Image.new("RGBA", size)
-            for x in range(size[0]):
-                for y in range(size[1]):
-                    places = [(min(x * zoom + i % zoom, width - 1), min(y * zoom + i // zoom, height - 1)) for i in range(zoom**2)]
-                    colors = zip(*(noisy.getpixel(place)[:3] for place in places))
-                    means = [sum(map(light_of, channel)) / zoom**2 for channel in colors]
-                    wanted.putpixel((x, y), (*map(level_of, means), 255))
-            self.assert_same(picture, wanted, most=1)
+            self.assert_same(picture, mean_picture(noisy, size), most=1)
 
     def test_fitted_exactly(self):
         """A picture is as large as the window in one direction, and each pixel is the mean light of what it covers."""

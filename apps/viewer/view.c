@@ -1,7 +1,7 @@
 #include "view.h"
 #include <stdlib.h>
 
-enum { CELL = 16 };
+enum { CELL = 16, MOST_BANDS = 16, LARGE = 1 << 16 };
 
 /* The window around the picture, and the cells of the checkerboard under it, in sRGB. */
 static const uint8_t GROUND[] = {40, 40, 44}, LIGHT[] = {204, 204, 204}, DARK[] = {153, 153, 153};
@@ -49,7 +49,6 @@ static void set_zoom(view *it, int zoom) {
 
 /* Forgets what was painted and made of a picture. */
 static void set_picture(view *it, pix_view_rgba16 picture) {
-    canvas_free(&it->shrunk);
     memset(&it->painted, 0, sizeof it->painted);
     it->picture = picture;
 }
@@ -78,7 +77,6 @@ void view_open(view *it, pix_view_rgba16 picture, uint32_t width, uint32_t heigh
 
 void view_close(view *it) {
     SDL_FreeSurface(it->screen);
-    canvas_free(&it->shrunk);
 }
 
 void view_resize(view *it, uint32_t width, uint32_t height) {
@@ -139,46 +137,27 @@ void view_zoom(view *it, int zoom, int32_t x, int32_t y) {
     settle(it);
 }
 
-/* The part of a side that is seen from `from` to `from + length`, in the picture's own pixels: its first one, and how
- * many. */
-static uint32_t seen(int32_t at, int zoom, uint32_t side, int32_t from, uint32_t length, uint32_t *count) {
-    int64_t first = ((int64_t)from - at) / zoom, last = ((int64_t)from + length - at + zoom - 1) / zoom;
-    first = first < 0 ? 0 : first > side ? side : first;
-    last = last < first ? first : last > side ? side : last;
-    *count = (uint32_t)(last - first);
-    return (uint32_t)first;
-}
-
-/* Whether the picture at the wanted size was made before. */
-static int is_shrunk(const view *it) {
-    return it->shrunk.pixels && it->shrunk_at == it->wanted.zoom && it->shrunk.width == it->wanted.wide &&
-           it->shrunk.height == it->wanted.high;
+/* The part of a region that another one has too; without points where they have none in common. */
+static pix_region common(pix_region one, pix_region other) {
+    const int64_t left = SDL_max(one.x, other.x), top = SDL_max(one.y, other.y);
+    const int64_t right = SDL_min((int64_t)one.x + one.width, (int64_t)other.x + other.width);
+    const int64_t bottom = SDL_min((int64_t)one.y + one.height, (int64_t)other.y + other.height);
+    if (left >= right || top >= bottom)
+        return pix_region_of(one.x, one.y, 0, 0);
+    return pix_region_of((int32_t)left, (int32_t)top, (uint32_t)(right - left), (uint32_t)(bottom - top));
 }
 
 /* The picture as it is seen in a part of the window, with where it lies there; `made` is to be freed after its use. */
-static pix_view_rgba16 shown(view *it, pix_region part, pix_region *to, canvas *made) {
+static pix_view_rgba16 shown(const view *it, pix_region part, pix_region *to, canvas *made) {
     const place *at = &it->wanted;
-    pix_view_rgba16 source = it->picture;
-    if (at->zoom == 1) {
-        *to = pix_region_of(at->x, at->y, source.width, source.height);
-        return source;
-    }
-    if (at->zoom <= 0) {
-        if (!is_shrunk(it)) {
-            canvas_free(&it->shrunk);
-            it->shrunk = at->zoom ? scale_down(source, (uint32_t)-at->zoom) : scale_to(source, at->wide, at->high);
-            it->shrunk_at = at->zoom;
-        }
-        *to = pix_region_of(at->x, at->y, at->wide, at->high);
-        return canvas_view(&it->shrunk);
-    }
-    uint32_t width, height, left = seen(at->x, at->zoom, source.width, part.x, part.width, &width);
-    uint32_t top = seen(at->y, at->zoom, source.height, part.y, part.height, &height);
-    source.pixels += (size_t)top * source.stride + left;
-    source.width = width;
-    source.height = height;
-    *made = scale_up(source, (uint32_t)at->zoom);
-    *to = pix_region_of(at->x + (int32_t)left * at->zoom, at->y + (int32_t)top * at->zoom, made->width, made->height);
+    const pix_size whole = {at->wide, at->high};
+    *to = pix_region_of(at->x, at->y, at->wide, at->high);
+    if (at->wide == it->picture.width && at->high == it->picture.height)
+        return it->picture;
+    *to = common(*to, part);
+    if (to->width && to->height)
+        *made = scale_window(it->picture, whole,
+                             pix_region_of(to->x - at->x, to->y - at->y, to->width, to->height));
     return canvas_view(made);
 }
 
@@ -208,8 +187,8 @@ static void encode(const canvas *tile, SDL_Surface *screen, pix_region part) {
     insist(pix_convert_bitmap(pix_bitmap_view_of_bitmap(image), pix_part_of_bitmap(view_bitmap(screen), part)));
 }
 
-/* Paints a part of the window: as a tile, by the commands of the whole window. */
-static void paint_part(view *it, pix_region part) {
+/* Paints a band of rows of the window: as a tile, by the commands of the whole window. */
+static void paint_band(const view *it, pix_region part) {
     const place *at = &it->wanted;
     canvas tile = canvas_of(part.width, part.height), made = {NULL, 0, 0};
     pix_region frame;
@@ -227,6 +206,37 @@ static void paint_part(view *it, pix_region part) {
     free(list);
     canvas_free(&made);
     canvas_free(&tile);
+}
+
+/* A band that a thread paints. */
+typedef struct {
+    const view *of;
+    pix_region part;
+} band;
+
+static int on_thread(void *given) {
+    const band *it = given;
+    paint_band(it->of, it->part);
+    return 0;
+}
+
+/* Paints a part of the window, by as many threads as there are processors where it is large. */
+static void paint_part(const view *it, pix_region part) {
+    band bands[MOST_BANDS];
+    SDL_Thread *threads[MOST_BANDS] = {NULL};
+    const int is_large = (uint64_t)part.width * part.height >= LARGE;
+    const uint32_t count = is_large ? (uint32_t)SDL_clamp(SDL_GetCPUCount(), 1, MOST_BANDS) : 1;
+    for (uint32_t i = 0; i < count; i++) {
+        const uint32_t first = part.height * i / count, end = part.height * (i + 1) / count;
+        bands[i].of = it;
+        bands[i].part = pix_region_of(part.x, part.y + (int32_t)first, part.width, end - first);
+        if (i + 1 < count)
+            threads[i] = SDL_CreateThread(on_thread, "band", &bands[i]);
+        if (!threads[i])
+            on_thread(&bands[i]);
+    }
+    for (uint32_t i = 0; i < count; i++)
+        SDL_WaitThread(threads[i], NULL);
 }
 
 /* A screen as rows of four bytes a pixel: the library moves them, whatever they mean. */

@@ -16,8 +16,6 @@ typedef struct {
 
 typedef struct {
     pix_view_rgba16 picture; /* premultiplied, at its own size */
-    canvas shrunk; /* the picture at a zoom below 1, made once for each size; null pixels where there is none */
-    int shrunk_at;
     int fits; /* the `most` of view_fit where the zoom follows the size of the window, and else 0 */
     place wanted, painted;
     SDL_Surface *screen; /* the window's pixels as they were painted, encoded; null before the first painting */

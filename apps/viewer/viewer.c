@@ -93,22 +93,24 @@ static void save(const char *name, SDL_Surface *screen) {
     free(file.bytes);
 }
 
-/* Prints how the picture lies in the window, and how many pixels of that were painted. */
-static void report(const view *it, long painted) {
+/* Prints how the picture lies in the window, how many pixels of that were painted, and in how long. */
+static void report(const view *it, long painted, double milliseconds) {
     const place *at = &it->wanted;
     char zoom[16] = "exact";
     if (at->zoom)
         snprintf(zoom, sizeof zoom, "%s%d", at->zoom < 0 ? "1/" : "", abs(at->zoom));
-    printf("%u x %u, zoom %s, at %d,%d: painted %ld of %ld pixels\n", (unsigned)at->width,
+    printf("%u x %u, zoom %s, at %d,%d: painted %ld of %ld pixels, %.1f ms\n", (unsigned)at->width,
            (unsigned)at->height, zoom, (int)at->x, (int)at->y, painted,
-           (long)at->width * (long)at->height);
+           (long)at->width * (long)at->height, milliseconds);
 }
 
 /* Paints what changed, and shows it; all of the window where it has to be shown anyway, as after
  * another window was over it. */
 static void show(viewer *of, int all) {
     view *it = &of->shown;
+    const Uint64 before = SDL_GetPerformanceCounter();
     painting done = view_paint(it);
+    const double seconds = (double)(SDL_GetPerformanceCounter() - before) / (double)SDL_GetPerformanceFrequency();
     SDL_Surface *shown = SDL_GetWindowSurface(of->window);
     SDL_Rect whole = {0, 0, it->screen->w, it->screen->h};
     SDL_Rect *parts = all || done.moved ? &whole : done.parts;
@@ -117,7 +119,7 @@ static void show(viewer *of, int all) {
     for (int i = 0; i < done.count; i++)
         painted += (long)done.parts[i].w * done.parts[i].h;
     if (of->reports && (done.count || done.moved))
-        report(it, painted);
+        report(it, painted, 1000 * seconds);
     if (!shown)
         fail(1, "the window", SDL_GetError());
     for (int i = 0; i < count; i++)

@@ -50,6 +50,17 @@ LIST_(_graya8, pix_matte)
         check(pix_run##S(pix_image_of##S(&pixel, 1, 1), commands, KINDS, &done) == PIX_OK, "pix_run" #S " by none",    \
               size);                                                                                                   \
         check(!pix_part_of##S(empty, to).height || !width, "pix_part_of" #S, size);                                    \
+    }                                                                                                                  \
+    /* A window without pixels of a picture that has as many as can be. */                                             \
+    static void scale##S(int size) {                                                                                   \
+        static uint32_t work[1 << 12];                                                                                 \
+        const pix_image##S empty = pix_image_of##S(NULL, 0, sizes[size][1] ? 40000 : 0);                               \
+        const pix_size all = {40000, 40000};                                                                           \
+        const pix_point corner = {40000, 0};                                                                           \
+        PIXEL pixel;                                                                                                   \
+        memset(&pixel, 0, sizeof pixel);                                                                               \
+        check(pix_scale##S(empty, corner, all, pix_view_of##S(&pixel, 1, 1), PIX_FILTER_AREA, work, 1 << 12) == PIX_OK, \
+              "pix_scale" #S, size);                                                                                   \
     }
 PAINT_(, pix_rgba8)
 PAINT_(_rgba16, pix_rgba16)
@@ -110,6 +121,9 @@ int main(void) {
             paint_rgba16(size, i & 1 ? part : whole, i & 2 ? part : whole);
             paint_graya8(size, i & 1 ? part : whole, i & 2 ? part : whole);
         }
+        scale(size);
+        scale_rgba16(size);
+        scale_graya8(size);
         convert(size);
         repeat(size);
         index_none(size);

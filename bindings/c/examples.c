@@ -79,6 +79,26 @@ static void a_photo(void) {
     check(status == PIX_OK && bytes[48 * 256 - 1] == 188 && bytes[0] == 188 && bytes[48 * 256] < 188, "a photo");
 }
 
+static void a_thumbnail(void) {
+    static uint8_t bytes[64 * 64 * 4], result[24 * 24 * 4];
+    static pix_rgba16 pixels[64 * 64], made[24 * 24];
+    static uint32_t work[1 << 14];
+    const size_t words = sizeof work / sizeof *work;
+    for (size_t i = 0; i < sizeof bytes; i++)
+        bytes[i] = i / 4 % 64 < 32 ? 255 : i % 4 == 3 ? 255 : 0;
+    pix_image_rgba16 large = pix_image_of_rgba16(pixels, 64, 64), small = pix_image_of_rgba16(made, 24, 24);
+    pix_bitmap photo = pix_bitmap_of(bytes, 64, 64, PIX_FORMAT_SRGBA8);
+    pix_bitmap thumbnail = pix_bitmap_of(result, 24, 24, PIX_FORMAT_SRGBA8);
+    pix_point corner = {0, 0};
+    pix_size all = {24, 24};
+    pix_status status = pix_convert_bitmap(pix_bitmap_view_of_bitmap(photo), pix_bitmap_of_image_rgba16(large));
+    if (status == PIX_OK)
+        status = pix_scale_rgba16(small, corner, all, pix_view_of_image_rgba16(large), PIX_FILTER_AREA, work, words);
+    if (status == PIX_OK)
+        status = pix_convert_bitmap(pix_bitmap_view_of_bitmap(pix_bitmap_of_image_rgba16(small)), thumbnail);
+    check(status == PIX_OK && result[44] == 255 && result[48] == 0, "a thumbnail");
+}
+
 static void a_table(void) {
     enum { COUNT = 1000 };
     static pix_srgb8 colors[COUNT], work[COUNT], entries[16];
@@ -154,6 +174,7 @@ int main(void) {
     a_glyph();
     a_glyph_of_16_bits();
     a_photo();
+    a_thumbnail();
     a_table();
     check(!strcmp(texts[PIX_OP_SRC_OVER], "SrcOver"), "words of operators");
     const int lines = compare_lines();

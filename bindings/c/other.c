@@ -9,6 +9,7 @@
 #include "other_seen.h"
 #include "plain.h"
 #include "plain_bitmap.h"
+#include "plain_scale.h"
 #include <stdlib.h>
 
 static const uint32_t facts[] = {PIX_FACTS_};
@@ -140,6 +141,61 @@ uint32_t pix_raw_convert_bitmap(uint32_t from, uint32_t to, const uint8_t *src, 
         for (uint32_t x = 0; x < width; x++)
             plain_cross(&source, &target, row_at(src, src_stride, height, y) + x * size,
                         (uint8_t *)(uintptr_t)row_at(dst, dst_stride, height, y) + x * to_size);
+    return PIX_OK;
+}
+
+/* Pictures at another size. */
+static uint32_t scaling_fault(const plain_scaling *it) {
+    uint64_t across, down;
+    if (it->filter >= PLAIN_FILTERS)
+        return PIX_BAD_FILTER;
+    if (!it->from.width || !it->from.height || !it->across || !it->down)
+        return PIX_NO_SIDE;
+    if (it->from.width > 65535 || it->from.height > 65535)
+        return PIX_TOO_LARGE;
+    across = (uint64_t)axis_whole(scaled_across(it));
+    down = (uint64_t)axis_whole(scaled_down(it));
+    if (down * it->kind.max > UINT32_MAX || across * down > INT32_MAX)
+        return PIX_TOO_LARGE;
+    return PIX_OK;
+}
+
+#define OTHER_SCALE_(S, PIXEL, KIND)                                                                                   \
+    uint32_t pix_raw_scale##S(PIXEL *pixels, size_t pixel_count, uint32_t left, uint32_t top, uint32_t width,          \
+                              uint32_t height, uint32_t stride, uint32_t across, uint32_t down, const PIXEL *source,   \
+                              size_t source_count, uint32_t source_width, uint32_t source_height,                      \
+                              uint32_t source_stride, uint32_t filter, uint32_t *work, size_t work_count) {            \
+        const plain_rows to = {(unsigned char *)pixels, width, height, stride};                                        \
+        const plain_rows from = {(unsigned char *)(uintptr_t)source, source_width, source_height, source_stride};      \
+        const plain_scaling it = {KIND, to, from, left, top, across, down, filter};                                    \
+        const uint32_t fault = scaling_fault(&it);                                                                     \
+        if (fault)                                                                                                     \
+            return fault;                                                                                              \
+        if ((uint64_t)left + width > across || (uint64_t)top + height > down)                                          \
+            return PIX_OUTSIDE;                                                                                        \
+        if (!is_sized(width, height, stride, pixel_count))                                                             \
+            return PIX_BAD_SIZE;                                                                                       \
+        if (!is_sized(source_width, source_height, source_stride, source_count))                                       \
+            return PIX_BAD_SOURCE;                                                                                     \
+        if (work_count < plain_scale_words(&it))                                                                       \
+            return PIX_SMALL_WORK;                                                                                     \
+        plain_scale(&it, (int32_t *)work);                                                                             \
+        return PIX_OK;                                                                                                 \
+    }
+OTHER_SCALE_(, pix_rgba8, RGBA8_)
+OTHER_SCALE_(_rgba16, pix_rgba16, RGBA16_)
+OTHER_SCALE_(_graya8, pix_graya8, GRAYA8_)
+
+uint32_t pix_raw_scale_work(uint32_t width, uint32_t height, uint32_t across, uint32_t down, uint32_t source_width,
+                            uint32_t source_height, uint32_t channels, uint32_t bits, uint32_t filter, uint64_t *words) {
+    const plain_kind kind = {bits > 8 ? 65535 : 255, bits / 8, channels};
+    const plain_rows to = {NULL, width, height, width}, from = {NULL, source_width, source_height, source_width};
+    const plain_scaling it = {kind, to, from, 0, 0, across, down, filter};
+    const uint32_t fault = scaling_fault(&it);
+    *words = 0;
+    if (fault)
+        return fault;
+    *words = plain_scale_words(&it);
     return PIX_OK;
 }
 

@@ -239,7 +239,12 @@ typedef enum {
     PIX_BAD_INDEX = 12, /* an index is past the end, or takes more bits than it is to have */
     PIX_BAD_DEPTH = 13, /* indices take 1, 2, 4 or 8 bits */
     PIX_FULL_TABLE = 14, /* a table has no room for a color */
-    PIX_BAD_STRENGTH = 15 /* errors are diffused with a strength of 0 to 16 */
+    PIX_BAD_STRENGTH = 15, /* errors are diffused with a strength of 0 to 16 */
+    PIX_NO_SIDE = 16,    /* a side of the source or of the new picture is 0 */
+    PIX_TOO_LARGE = 17,  /* a side of the source is above 65535, or the new picture has larger sides than its sums allow */
+    PIX_OUTSIDE = 18,    /* the window is not all in the new picture */
+    PIX_SMALL_WORK = 19, /* the work memory has fewer words than pix_scale_work says */
+    PIX_BAD_FILTER = 20  /* no such filter */
 } pix_status;
 
 /* A line of English that says what a status means. */
@@ -489,6 +494,61 @@ static inline pix_bitmap pix_part_of_bitmap(pix_bitmap image, pix_region region)
 static inline uint64_t pix_repeat_image(pix_command *commands, uint64_t room, pix_region to, pix_view source,
                                         pix_region from, pix_op op);
 
+/* ---- Pictures at another size ---- */
+
+/* How a pixel of a picture at another size is made of those of the source. Columns and rows are
+ * weighed apart, in whole numbers. A pixel is the sum of all products of pixels and weights, divided
+ * by the sum of the weights. It is rounded once, to the nearest, ties up. */
+typedef enum {
+    PIX_FILTER_NEAREST = 0, /* the pixel under its center: for sprites */
+    PIX_FILTER_AREA = 1,    /* the mean of the area that it covers: for photographs, and for sharp enlarged pixels */
+    PIX_FILTER_LINEAR = 2   /* by the distance of centers, as far as one pixel, of the source or of the result: smooth */
+} pix_filter;
+
+/* The sides of a picture, and a point of one. */
+typedef struct { uint32_t width, height; } pix_size;
+typedef struct { uint32_t x, y; } pix_point;
+
+/* How many filters there are. A number from there on is refused. */
+#define PIX_FILTER_COUNT (PIX_FILTER_LINEAR + 1)
+
+/* Returns how many words of work memory pix_scale takes for a window of the size `to`, of a new
+ * picture of `size`, made of one of the size `from`. It is 0 where pix_scale returns PIX_BAD_FILTER,
+ * PIX_NO_SIDE or PIX_TOO_LARGE for these sizes, and else at least 1. */
+static inline size_t pix_scale_work(pix_size to, pix_size size, pix_size from, pix_filter filter);
+
+/* Writes a window of a picture at another size. `from` has the source, and `size` is that of the
+ * whole new picture, which is made of all of the source. `to` becomes the part of the new picture
+ * whose upper left pixel is at `at`. So the whole need never be in memory: a viewer pans and zooms
+ * by windows, and tiles side by side are the whole without a seam. `work` has `words` words, at least
+ * as many as pix_scale_work says. Their values don't matter, before and afterwards.
+ *
+ * Pixels are premultiplied and linear, so the mean of two of them is what is seen from afar. For a
+ * picture of sRGB, decode it to 16 bits with pix_convert_bitmap, scale, and encode:
+ *
+ *     pix_image_rgba16 large = pix_image_of_rgba16(pixels, 64, 64), small = pix_image_of_rgba16(made, 24, 24);
+ *     pix_bitmap photo = pix_bitmap_of(bytes, 64, 64, PIX_FORMAT_SRGBA8);
+ *     pix_bitmap thumbnail = pix_bitmap_of(result, 24, 24, PIX_FORMAT_SRGBA8);
+ *     pix_point corner = {0, 0};
+ *     pix_size all = {24, 24};
+ *     pix_status status = pix_convert_bitmap(pix_bitmap_view_of_bitmap(photo), pix_bitmap_of_image_rgba16(large));
+ *     if (status == PIX_OK)
+ *         status = pix_scale_rgba16(small, corner, all, pix_view_of_image_rgba16(large), PIX_FILTER_AREA, work, words);
+ *     if (status == PIX_OK)
+ *         status = pix_convert_bitmap(pix_bitmap_view_of_bitmap(pix_bitmap_of_image_rgba16(small)), thumbnail);
+ *
+ * A premultiplied picture stays so. A side of the source is at most 65535. Both sides of an axis are
+ * divided by their greatest common divisor first, which changes no pixel. The sum of an axis'
+ * weights is then 1 (nearest) or the source's side (area). By PIX_FILTER_LINEAR it is twice the new
+ * side, or 32768 if that is the smaller one. PIX_TOO_LARGE is for products of both sums above
+ * 2147483647, and for products of the sum of the rows with the greatest channel above 4294967295.
+ *
+ * Returns PIX_OK, PIX_BAD_FILTER, PIX_NO_SIDE, PIX_TOO_LARGE, PIX_OUTSIDE, PIX_BAD_SIZE,
+ * PIX_BAD_SOURCE, PIX_SMALL_WORK, PIX_BAD_LENGTH (more words than memory holds), PIX_NULL or
+ * PIX_OVERLAP. */
+static inline pix_status pix_scale(pix_image to, pix_point at, pix_size size, pix_view from, pix_filter filter,
+                                   uint32_t *work, size_t words);
+
 /* ---- Tables of colors, for images of indices ----
  *
  * Colors here are as files of indexed images have them: sRGB, and not multiplied by an alpha. The
@@ -727,7 +787,8 @@ typedef struct {
  * pix_clear_rgba16, pix_copy_color_rgba16, pix_copy_image_rgba16, pix_composite_color_rgba16,
  * pix_composite_image_rgba16, pix_composite_matte_rgba16 and pix_composite_image_matte_rgba16
  * (through a pix_matte16), pix_composite_image_alpha_rgba16 (at a uint16_t), pix_run_rgba16,
- * pix_run_window_rgba16, pix_do_rgba16 and pix_repeat_image_rgba16. The same are there with _graya8
+ * pix_run_window_rgba16, pix_do_rgba16, pix_repeat_image_rgba16, pix_scale_rgba16 and
+ * pix_scale_work_rgba16. The same are there with _graya8
  * (through a pix_matte, at a uint8_t). They are defined below, together with those above. */
 
 /* Composites a color with an image of 16 bits a channel through a mask of 8 bits, as a rasterizer of
@@ -806,11 +867,11 @@ static inline pix_command_rgba16 pix_composite_image_matte8_rgba16(pix_region to
  * The functions above call these, which are proved: pix_X calls pix_raw_X. A short call is a longer
  * one at fixed arguments: pix_run is pix_run_window at (0, 0), pix_quantize is pix_quantize_refined,
  * and pix_diffuse_indexed is pix_diffuse_indexed_by. They test sizes, kinds, regions, operators,
- * sources, formats, lengths, tables, indices, depths and strengths. Here no pointer may be null or
- * badly aligned, even where its length is 0, and even in commands of kinds that do not use it. The
- * image, `done` and `dst` may share memory with nothing else that is passed. Lengths are counted in
- * elements. `stride` is at least the width, and 0 does not stand for it. `serpentine` is 0 where all
- * rows go from left to right. */
+ * sources, formats, lengths, tables, indices, depths, strengths, filters and work memory. Here no
+ * pointer may be null or badly aligned, even where its length is 0, and even in commands of kinds
+ * that do not use it. The image, `done`, `dst` and `work` may share memory with nothing else that is
+ * passed. Lengths are counted in elements. `stride` is at least the width, and 0 does not stand for
+ * it. `serpentine` is 0 where all rows go from left to right. */
 
 uint32_t pix_raw_run_window(pix_rgba8 *pixels, size_t pixel_count, uint32_t left, uint32_t top, uint32_t width,
                             uint32_t height, uint32_t stride, const pix_command *commands, size_t command_count,
@@ -830,6 +891,23 @@ uint32_t pix_raw_convert(uint32_t from, uint32_t to, const uint8_t *src, size_t 
 uint32_t pix_raw_convert_bitmap(uint32_t from, uint32_t to, const uint8_t *src, size_t src_len, uint8_t *dst, size_t dst_len,
                                 int64_t src_stride, int64_t dst_stride, uint32_t width, uint32_t height);
 uint32_t pix_raw_format_size(uint32_t format);
+
+/* Pictures at another size: `across` and `down` are the sides of the whole new picture, of which the
+ * window at (left, top) is written. */
+uint32_t pix_raw_scale(pix_rgba8 *pixels, size_t pixel_count, uint32_t left, uint32_t top, uint32_t width, uint32_t height,
+                       uint32_t stride, uint32_t across, uint32_t down, const pix_rgba8 *source, size_t source_count,
+                       uint32_t source_width, uint32_t source_height, uint32_t source_stride, uint32_t filter,
+                       uint32_t *work, size_t work_count);
+uint32_t pix_raw_scale_rgba16(pix_rgba16 *pixels, size_t pixel_count, uint32_t left, uint32_t top, uint32_t width,
+                              uint32_t height, uint32_t stride, uint32_t across, uint32_t down, const pix_rgba16 *source,
+                              size_t source_count, uint32_t source_width, uint32_t source_height, uint32_t source_stride,
+                              uint32_t filter, uint32_t *work, size_t work_count);
+uint32_t pix_raw_scale_graya8(pix_graya8 *pixels, size_t pixel_count, uint32_t left, uint32_t top, uint32_t width,
+                              uint32_t height, uint32_t stride, uint32_t across, uint32_t down, const pix_graya8 *source,
+                              size_t source_count, uint32_t source_width, uint32_t source_height, uint32_t source_stride,
+                              uint32_t filter, uint32_t *work, size_t work_count);
+uint32_t pix_raw_scale_work(uint32_t width, uint32_t height, uint32_t across, uint32_t down, uint32_t source_width,
+                            uint32_t source_height, uint32_t channels, uint32_t bits, uint32_t filter, uint64_t *words);
 uint32_t pix_raw_nearest(const pix_srgb8 *entries, size_t len, const pix_srgb8 *color, uint8_t *index);
 uint32_t pix_raw_map_indexed(const pix_srgb8 *entries, size_t len, const pix_srgb8 *pixels, size_t pixel_count,
                              uint8_t *indices, size_t index_count);
@@ -1025,6 +1103,11 @@ static inline const char *pix_status_text(pix_status status) {
     case PIX_BAD_DEPTH: return "indices take 1, 2, 4 or 8 bits";
     case PIX_FULL_TABLE: return "a table has no room for a color";
     case PIX_BAD_STRENGTH: return "errors are diffused with a strength of 0 to 16";
+    case PIX_NO_SIDE: return "a side of the source or of the new picture is 0";
+    case PIX_TOO_LARGE: return "a side of the source is above 65535, or the new picture is too large for its sums";
+    case PIX_OUTSIDE: return "the window is not all in the new picture";
+    case PIX_SMALL_WORK: return "the work memory is too small";
+    case PIX_BAD_FILTER: return "no such filter";
     }
     return "no such status";
 }
@@ -1359,6 +1442,44 @@ PIX_PARTS_(, pix_rgba8, PIX_FORMAT_RGBA8P)
 PIX_PARTS_(_rgba16, pix_rgba16, PIX_FORMAT_RGBA16P)
 PIX_PARTS_(_graya8, pix_graya8, PIX_FORMAT_GRAYA8P)
 
+/* Pictures at another size, of one kind of pixels: its channels, and the bits of one. */
+#define PIX_SCALES_(S, PIXEL, CHANNELS, BITS)                                                                          \
+    /* Decides: that no memory holds so many words. */                                                                 \
+    static inline size_t pix_scale_work##S(pix_size to, pix_size size, pix_size from, pix_filter filter) {             \
+        uint64_t words = 0;                                                                                            \
+        if (pix_raw_scale_work(to.width, to.height, size.width, size.height, from.width, from.height, CHANNELS, BITS,  \
+                               (uint32_t)filter, &words)                                                               \
+            || words > (size_t)PTRDIFF_MAX / sizeof(uint32_t))                                                         \
+            return 0;                                                                                                  \
+        return words ? (size_t)words : 1;                                                                              \
+    }                                                                                                                  \
+    /* Decides: whether the image, the source and the work memory are apart from each other. */                        \
+    static inline pix_status pix_scale##S(pix_image##S to, pix_point at, pix_size size, pix_view##S from,              \
+                                          pix_filter filter, uint32_t *work, size_t words) {                           \
+        const uint32_t stride = to.stride ? to.stride : to.width, apart = from.stride ? from.stride : from.width;      \
+        const size_t extent = pix_extent_(to.width, to.height, stride, sizeof(PIXEL));                                 \
+        const size_t count = pix_extent_(from.width, from.height, apart, sizeof(PIXEL));                               \
+        uint64_t nothing = 0, no_work = 0;                                                                             \
+        PIXEL *written = to.pixels || extent ? to.pixels : (PIXEL *)(void *)&nothing;                                  \
+        const PIXEL *read = from.pixels || count ? from.pixels : (const PIXEL *)(const void *)&pix_nothing_;           \
+        uint32_t *room = work || words ? work : (uint32_t *)(void *)&no_work;                                          \
+        pix_status status = words > (size_t)PTRDIFF_MAX / sizeof *work ? PIX_BAD_LENGTH : PIX_OK;                      \
+        if (status == PIX_OK)                                                                                          \
+            status = pix_apart_(written, extent * sizeof(PIXEL), read, count * sizeof(PIXEL));                         \
+        if (status == PIX_OK)                                                                                          \
+            status = pix_apart_(room, words * sizeof *work, read, count * sizeof(PIXEL));                              \
+        if (status == PIX_OK)                                                                                          \
+            status = pix_apart_(room, words * sizeof *work, written, extent * sizeof(PIXEL));                          \
+        if (status != PIX_OK)                                                                                          \
+            return status;                                                                                             \
+        return (pix_status)pix_raw_scale##S(written, extent, at.x, at.y, to.width, to.height, stride, size.width,      \
+                                            size.height, read, count, from.width, from.height, apart,                  \
+                                            (uint32_t)filter, room, words);                                            \
+    }
+PIX_SCALES_(, pix_rgba8, 4, 8)
+PIX_SCALES_(_rgba16, pix_rgba16, 4, 16)
+PIX_SCALES_(_graya8, pix_graya8, 2, 8)
+
 /* Decides: the part, as pix_part_of does. */
 static inline pix_bitmap pix_part_of_bitmap(pix_bitmap image, pix_region region) {
     pix_bitmap part = image;
@@ -1656,6 +1777,7 @@ static inline pix_status pix_look_up_rgba(pix_table_rgba table, const uint8_t *i
 #undef PIX_CALLS_
 #undef PIX_PARTS_
 #undef PIX_SLICE_
+#undef PIX_SCALES_
 
 #ifdef __cplusplus
 }

@@ -177,6 +177,33 @@ EACH_TABLE_(diffuse_rgba, pix_diffuse_indexed_rgba(SHADES_, shades, count, SIDE,
 EACH_TABLE_(diffuse_turning_rgba,
             pix_diffuse_indexed_rgba(SHADES_, shades, count, (count + 1) / 2, TURNING_, shade_work, indices))
 
+/* Each filter, to a larger picture and to a smaller one, of each kind of pixels. */
+#define SCALE_(S)                                                                                                      \
+    static pix_status scale##S(void) {                                                                                 \
+        static uint32_t room[1 << 16];                                                                                 \
+        const pix_size sizes[] = {{SIDE, SIDE}, {17, 31}, {300, 96}, {31, 200}};                                       \
+        const pix_point corner = {0, 0};                                                                               \
+        pix_status status = PIX_OK;                                                                                    \
+        for (int i = 0; i < 4 * PIX_FILTER_COUNT && status == PIX_OK; i++) {                                           \
+            const pix_size all = sizes[i % 4];                                                                         \
+            const pix_image##S window = pix_image_of##S(pixels##S, 17, 31);                                            \
+            status = pix_scale##S(window, corner, all, pix_view_of##S(source##S, SIDE, SIDE), (pix_filter)(i / 4),     \
+                                  room, sizeof room / sizeof *room);                                                   \
+        }                                                                                                              \
+        return status;                                                                                                 \
+    }
+SCALE_()
+SCALE_(_rgba16)
+SCALE_(_graya8)
+
+static pix_status scale_work(void) {
+    const pix_size window = {17, 31}, all = {300, 96}, from = {SIDE, SIDE};
+    pix_status status = PIX_OK;
+    for (int i = 0; i < PIX_FILTER_COUNT && status == PIX_OK; i++)
+        status = pix_scale_work(window, all, from, (pix_filter)i) ? PIX_OK : PIX_TOO_LARGE;
+    return status;
+}
+
 static pix_status look_up(void) {
     static pix_srgb8 found[COUNT];
     memset(indices, 7, sizeof indices);
@@ -295,6 +322,10 @@ static const struct { const char *name; size_t kibibytes; pix_status (*call)(voi
     {"pix_convert_bitmap", FEW, convert_bitmap},
     {"pix_convert_in_place", FEW, convert_in_place},
     {"pix_color_of", FEW, colors_of},
+    {"pix_scale", FEW, scale},
+    {"pix_scale_rgba16", FEW, scale_rgba16},
+    {"pix_scale_graya8", FEW, scale_graya8},
+    {"pix_scale_work", FEW, scale_work},
     {"pix_nearest", FEW, find},
     {"pix_quantize_refined, without rounds", MATCHING, make},
     {"pix_quantize_refined_alpha, without rounds", MATCHING, make_alpha},

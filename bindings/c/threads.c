@@ -1,6 +1,7 @@
 /* Two threads paint two images from one source at once, and both images come out alike; then four threads paint bands
- * of rows of one image at once, and it is the image that one call paints; then a signal handler paints an image while the
- * call that it interrupts paints another one: not under Windows, where no signal comes in the midst of a call. */
+ * of rows of one image at once, and it is the image that one call paints; and they scale bands, which are the whole.
+ * Then a signal handler paints an image while the call that it interrupts paints another one: not under Windows, where
+ * no signal comes in the midst of a call. */
 #define _DEFAULT_SOURCE
 #include "pix.h"
 #include <pthread.h>
@@ -55,6 +56,23 @@ static void *paint_band(void *row) {
     return NULL;
 }
 
+/* Writes a band of the first image as one of a picture at another size, made of a source that all threads read. */
+static pix_status scale_rows(pix_rgba8 *rows, uint32_t top, uint32_t height) {
+    uint32_t work[4096];
+    const pix_size all = {SIDE, SIDE};
+    const pix_point at = {0, top};
+    return pix_scale(pix_image_of(rows, SIDE, height), at, all, pix_view_of(source, SIDE - 7, SIDE - 5), PIX_FILTER_AREA,
+                     work, sizeof work / sizeof *work);
+}
+
+static void *scale_band(void *row) {
+    const size_t top = (size_t)((pix_rgba8 *)row - images[0]) / SIDE;
+    for (int i = 0; i < ROUNDS / 20; i++)
+        if (scale_rows((pix_rgba8 *)row, (uint32_t)top, HEIGHT) != PIX_OK)
+            return row;
+    return NULL;
+}
+
 /* Waits for threads, and returns whether all of them went well. */
 static int join(pthread_t *threads, int count) {
     int is_well = 1;
@@ -66,15 +84,22 @@ static int join(pthread_t *threads, int count) {
     return is_well;
 }
 
-/* Whether the bands of one image, painted at once, are the image painted whole. */
-static int try_bands(void) {
+/* Runs a job on each band of the first image at once, and returns whether all went well. */
+static int on_bands(void *(*job)(void *)) {
     pthread_t threads[BANDS];
+    for (int i = 0; i < BANDS; i++)
+        if (pthread_create(&threads[i], NULL, job, images[0] + i * HEIGHT * SIDE))
+            return 0;
+    return join(threads, BANDS);
+}
+
+/* Whether the bands of one image, painted at once, are the image painted whole, and bands of a scaled one are that. */
+static int try_bands(void) {
     pix_command list[4];
     fill_list(list);
-    for (int i = 0; i < BANDS; i++)
-        if (pthread_create(&threads[i], NULL, paint_band, images[0] + i * HEIGHT * SIDE))
-            return 0;
-    return join(threads, BANDS) && pix_run(pix_image_of(images[1], SIDE, SIDE), list, 4, NULL) == PIX_OK
+    const int are_painted = on_bands(paint_band) && pix_run(pix_image_of(images[1], SIDE, SIDE), list, 4, NULL) == PIX_OK
+                            && memcmp(images[0], images[1], sizeof images[0]) == 0;
+    return are_painted && on_bands(scale_band) && scale_rows(images[1], 0, SIDE) == PIX_OK
            && memcmp(images[0], images[1], sizeof images[0]) == 0;
 }
 

@@ -57,6 +57,11 @@ export class Image extends Rows {
         return this.pix.converted(from, formatOf(format), array);
     }
 
+    // The picture at another size, or the window [x, y, width, height] of that, as a new image.
+    scaled(width, height, { filter = 'Area', window = [0, 0, width, height] } = {}) {
+        return this.pix.scaled(this, width, height, filter, window);
+    }
+
     // The pixel at (x, y): its channels.
     pixel(x, y) {
         whole(x, 'x', this.width - 1);

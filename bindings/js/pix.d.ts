@@ -12,6 +12,11 @@ export const Op: Readonly<Record<OpName, number>>;
 /** The formats of pix.h, without PIX_FORMAT_: ImageData has SRGBA8. */
 export const Format: Readonly<Record<string, number>>;
 export type AnyFormat = string | number;
+/** How a pixel of a picture at another size is made: of the pixel under its center, as the mean of the area that it covers, or by
+ * the distance of centers. */
+export type AnyFilter = FilterName | number;
+export type FilterName = 'Nearest' | 'Area' | 'Linear';
+export const Filter: Readonly<Record<FilterName, number>>;
 export const VERSION: string;
 
 /** A kind of pixels that is painted: premultiplied and linear. */
@@ -83,6 +88,9 @@ export class Image {
     run(commands: Command | readonly Command[], options?: { origin?: readonly [left: number, top: number] }): void;
     /** The picture in a format, in the given array or a new one: of words if the format has 16 bits. */
     toArray<T extends ArrayBufferView = Uint8Array>(format: AnyFormat, array?: T): T;
+    /** The picture at another size, as a new image in the module's memory, by 'Area' without a filter. With a `window`, a region
+     * of that size, only that part is made: the whole need never be in memory, and windows side by side have no seam. */
+    scaled(width: number, height: number, options?: { filter?: AnyFilter; window?: Region }): Image;
     /** The channels of a pixel. */
     pixel(x: number, y: number): number[];
     /** A view of a part of the same pixels. */

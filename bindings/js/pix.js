@@ -10,9 +10,9 @@ import { arrayOf, bitmapOf, BYTES, bytesOf, Image, isWide, kindsOf, Matte, meet 
 import { layoutOf, writeList } from './layout.js';
 import { Memory } from './memory.js';
 import * as tables from './tables.js';
-import { bad, Format, formatOf, kindOf, MOST, Op, PixError, RGBA16, RGBA8, GRAYA8, shown, STATUS, whole } from './values.js';
+import { bad, Filter, filterOf, Format, formatOf, kindOf, MOST, Op, PixError, regionOf, RGBA16, RGBA8, GRAYA8, shown, STATUS, whole } from './values.js';
 
-export { Format, GRAYA8, Image, Matte, Op, PixError, RGBA16, RGBA8, VERSION };
+export { Filter, Format, GRAYA8, Image, Matte, Op, PixError, RGBA16, RGBA8, VERSION };
 export { channels, colorOf, srgb } from './values.js';
 export * from './commands.js';
 
@@ -106,6 +106,38 @@ export class Pix extends Memory {
         this.scratch((put) => [this.calls.pix_raw_convert_bitmap(read.format, written.format, BigInt(put(source)),
             BigInt(read.length), BigInt(put(target, true)), BigInt(written.length), read.stride, written.stride,
             to.width, to.height)]);
+    }
+
+    // How many words of work memory a window of a picture at another size takes, by the numbers of the call.
+    scaleWork({ type, width, height }, across, down, [, , wide, high], filter) {
+        let words = 0;
+        const bits = type.max > 255 ? 16 : 8, answer = new BigUint64Array(1);
+        this.scratch((put) => {
+            const at = put(answer, true);
+            const status = this.calls.pix_raw_scale_work(wide, high, across, down, width, height, type.channels, bits, filter, BigInt(at));
+            words = Number(new BigUint64Array(this.memory.buffer, at, 1)[0]);
+            return [status];
+        });
+        return words;
+    }
+
+    // A window of the picture at another size, as a new image.
+    scaled(image, across, down, filter, window) {
+        const number = filterOf(filter), part = regionOf(window, 'window'), [x, y, width, height] = part;
+        [across, down].forEach((side) => whole(side, 'a side of the new picture'));
+        const words = this.scaleWork(image, across, down, part, number);
+        if (x < 0 || y < 0 || x + width > across || y + height > down) throw new PixError(STATUS.indexOf('OUTSIDE'));
+        const made = this.newImage(width, height, image.type), extent = BigInt(made.extent);
+        try {
+            const work = new Uint32Array(words);
+            this.scratch((put) => [this.calls[`pix_raw_scale${image.type.suffix}`](BigInt(put(made, true)), extent, x, y, width, height, width,
+                across, down, BigInt(put(image)), BigInt(image.extent), image.width, image.height, image.stride, number,
+                BigInt(put(work)), BigInt(words))]);
+        } catch (error) {
+            made.free();
+            throw error;
+        }
+        return made;
     }
 
     // A bitmap in another format, in the given array or a new one.

@@ -4,7 +4,7 @@ import * as lib from './pix.js';
 
 const {
     channels, clear, colorOf, compositeColor, compositeImage, compositeImageAlpha, compositeImageMatte, compositeMatte, copyColor,
-    copyImage, Format, GRAYA8, Op, PixError, repeatImage, RGBA16, RGBA8, srgb,
+    copyImage, Filter, Format, GRAYA8, Op, PixError, repeatImage, RGBA16, RGBA8, srgb,
 } = lib;
 
 function check(is, said) {
@@ -179,6 +179,30 @@ export const trials = {
         same(pix.unpackRow(2, Uint8Array.of(0b01101100, 0b01000000), 5), [1, 2, 3, 0, 1], 'unpacked');
         check(pix.rowSize(4, 3) === 2, 'the size of a row');
     },
+    'pictures at another size, each filter beside its sums, and windows of them': (pix) => {
+        const below = numbers(3);
+        for (const type of [RGBA8, RGBA16, GRAYA8]) {
+            const image = pix.view(pixelsOf(below, type), WIDE, HIGH, { type });
+            for (const [filter, number] of Object.entries(Filter)) {
+                if (!WEIGHTS[filter]) continue;
+                for (const [width, height] of [[3, 2], [12, 9], [WIDE, HIGH], [1, 20]]) {
+                    const wanted = scaledBy(WEIGHTS[filter], image.pixels, type.channels, width, height);
+                    const made = image.scaled(width, height, { filter });
+                    same(made.pixels, wanted, `${type} to ${width} x ${height} by ${filter}`);
+                    const [x, y] = [below(width), below(height)], window = [x, y, width - x, height - y];
+                    const part = image.scaled(width, height, { filter: number, window });
+                    same(part.pixels, made.part(window).toArray(type.format), `its window ${window}`);
+                    made.free();
+                    part.free();
+                }
+            }
+        }
+        const apart = pix.view(Uint8Array.of(1, 1, 1, 1, 9, 9, 9, 9, 3, 3, 3, 3), 1, 2, { stride: 2 });
+        same(apart.scaled(1, 1).pixels, [2, 2, 2, 2], 'a stride');
+        const dots = pix.fromArray(Uint8Array.of(0, 0, 0, 255, 255, 255), 2, 1, 'SRGB8');
+        same(dots.scaled(2 ** 30, 1, { filter: 'Nearest', window: [2 ** 29 - 1, 0, 2, 1] }).toArray('SGRAY8'), [0, 255], 'far away');
+        same(dots.scaled(1, 1).toArray('SRGB8'), [188, 188, 188], 'half the light');
+    },
     'what is refused says what to write': (pix) => {
         const image = pix.newImage(4, 4), small = pix.newImage(4, 4, 'RGBA8'), all = [0, 0, 4, 4];
         refused(() => image.run(copyColor(all, [200, 120, 40, 255])), TypeError, 'srgb(200,120,40,255)');
@@ -210,6 +234,13 @@ export const trials = {
         refused(() => pix.lookUp(new Uint8Array(3), Uint8Array.of(1)), PixError, 'BAD_INDEX');
         refused(() => pix.packRow(3, new Uint8Array(1)), PixError, 'BAD_DEPTH');
         refused(() => pix.diffuseIndexed(new Uint8Array(3), new Uint8Array(3), 1, { strength: 17 }), PixError, 'BAD_STRENGTH');
+        refused(() => image.scaled(0, 4), PixError, 'NO_SIDE');
+        refused(() => image.scaled(4, 4, { window: [1, 0, 4, 4] }), PixError, 'OUTSIDE');
+        refused(() => image.scaled(4, 4, { window: [0, -1, 1, 1] }), PixError, 'OUTSIDE');
+        refused(() => pix.newImage(65536, 1).scaled(4, 4), PixError, 'TOO_LARGE');
+        refused(() => image.scaled(4, 4, { filter: 'Box' }), TypeError, "'Area'");
+        refused(() => image.scaled(4, 4, { window: [0, 0] }), TypeError, '[x, y, width, height]');
+        refused(() => image.scaled(2.5, 4), RangeError, 'Math.round');
         refused(() => pix.callRaw('no_such', 1), Error, 'from one release');
         same(image.pixels, new Uint16Array(64), 'nothing is painted');
         if (typeof structuredClone === 'function') {
@@ -246,6 +277,35 @@ function errorBound(table) {
     const levels = (c) => [...new Set(table.filter((_, i) => i % 3 === c))].sort((a, b) => a - b);
     const steps = [0, 1, 2].flatMap((c) => levels(c).map((level, i, all) => level - (all[i - 1] ?? level)));
     return Math.max(24, ...steps.map((step) => Math.ceil(step / 2)));
+}
+
+// What place j of n counts for place i of m: by the definition of each filter.
+const distance = (n, m, i, j) => Math.abs((2 * j + 1) * m - (2 * i + 1) * n);
+const places = (n, weight) => Array.from({ length: n }, (_, j) => weight(j));
+const WEIGHTS = {
+    Nearest: (n, m, i) => places(n, (j) => Number(j === Math.floor(((2 * i + 1) * n) / (2 * m)))),
+    Area: (n, m, i) => places(n, (j) => Math.max(0, Math.min((i + 1) * n, (j + 1) * m) - Math.max(i * n, j * m))),
+    Linear: (n, m, i) => {
+        const count = (j) => Math.max(0, 2 * Math.max(n, m) - distance(n, m, i, j));
+        if (m >= n) return places(n, (j) => count(j) + (j ? 0 : count(-1)) + (j < n - 1 ? 0 : count(n)));
+        const upTo = (j) => places(j, count).reduce((sum, weight) => sum + weight, 0), total = upTo(n);
+        const mark = (j) => Math.floor((2 * 32768 * upTo(j) + total) / (2 * total));
+        return places(n, (j) => mark(j + 1) - mark(j));
+    },
+};
+
+// A picture of WIDE by HIGH pixels at another size: each channel is its double sum, rounded once.
+function scaledBy(weights, pixels, many, width, height) {
+    return Array.from({ length: width * height * many }, (_, at) => {
+        const c = at % many, x = Math.floor(at / many) % width, y = Math.floor(at / many / width);
+        const across = weights(WIDE, width, x), down = weights(HIGH, height, y);
+        let sum = 0, whole = 0;
+        down.forEach((v, row) => across.forEach((u, column) => {
+            sum += v * u * pixels[(row * WIDE + column) * many + c];
+            whole += v * u;
+        }));
+        return Math.floor((2 * sum + whole) / (2 * whole));
+    });
 }
 
 // Error diffusion by Floyd and Steinberg, as documented in pix.h.

@@ -1,11 +1,14 @@
 // Kinds of pixels, operators, formats, regions and colors, and errors with a hint.
-import { FORMATS, OPERATORS, STATUSES } from './facts.js';
+import { FILTERS, FORMATS, OPERATORS, STATUSES } from './facts.js';
 
 export const MOST = 2147483647;
 
 // The operators and the formats, by their names.
 export const Op = Object.freeze(Object.fromEntries(OPERATORS.map(({ name }, number) => [name, number])));
 export const Format = Object.freeze({ ...FORMATS });
+// The filters of pictures at another size: Nearest, Area, Linear.
+export const Filter = Object.freeze(Object.fromEntries(Object.entries(FILTERS).map(([name, number]) =>
+    [name.toLowerCase().replace(/(?:^|_)(.)/g, (_, letter) => letter.toUpperCase()), number])));
 // The kinds of pixels: bytes and channels of a pixel, the greatest channel, the format, and the suffix of its calls.
 const typeOf = (name, channels, max, suffix) => Object.freeze({
     name, channels, max, suffix, format: FORMATS[`${name}P`], array: max > 255 ? Uint16Array : Uint8Array,
@@ -17,7 +20,7 @@ export const GRAYA8 = typeOf('GRAYA8', 2, 255, '_graya8');
 export const TYPES = [RGBA8, RGBA16, GRAYA8];
 export const STATUS = ['OK', 'BAD_SIZE', 'BAD_KIND', 'BAD_REGION', 'BAD_OP', 'BAD_SOURCE', 'BAD_FORMAT', 'BAD_LENGTH', 'NULL', 'OVERLAP',
     'BAD_LIBRARY', 'BAD_TABLE', 'BAD_INDEX', 'BAD_DEPTH', 'FULL_TABLE', 'BAD_STRENGTH', 'NO_SIDE', 'TOO_LARGE', 'OUTSIDE',
-    'SMALL_WORK', 'BAD_FILTER', 'BAD_WEIGHTS'];
+    'SMALL_WORK', 'BAD_FILTER'];
 
 // An error of the library: `status` is the name of its status, and `index` the place of the bad command.
 export class PixError extends Error {
@@ -56,6 +59,7 @@ const numbered = (list, count, what, example) => (value) => {
         : bad(`${shown(value)} is no ${what}: write ${example}`);
 };
 export const opOf = numbered(Op, OPERATORS.length, 'operator', "Op.SrcOver or 'SrcOver'");
+export const filterOf = numbered(Filter, Object.keys(FILTERS).length, 'filter', "Filter.Area or 'Area'");
 export const formatOf = numbered(FORMATS, Object.keys(FORMATS).length, 'format', "Format.SRGBA8 or 'SRGBA8'");
 
 // ---- Colors

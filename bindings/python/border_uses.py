@@ -134,6 +134,14 @@ USES = [
         for use, is_written in ((painted, True), (read_by, False))
     ],
     ("pix_raw_run_window", False, masked_by),
+    *[
+        (name, False, lambda it, type=type: image_of(it, type).scaled(20, 7))
+        for name, type in (
+            ("pix_raw_scale", pix.RGBA8),
+            ("pix_raw_scale_rgba16", pix.RGBA16),
+            ("pix_raw_scale_graya8", pix.GRAYA8),
+        )
+    ],
     ("pix_raw_convert", False, lambda it: pix.convert(RGBA8, it, BGRA8)),
     ("pix_raw_convert", True, lambda it: pix.convert(RGBA8, bytes(SIZE), BGRA8, it)),
     (
@@ -260,6 +268,12 @@ TAKEN = [
     (
         "Image.to_array",
         lambda it, n: pix.Image(it.read(64, "array"), n(4), n(4)).to_array(pix.SRGBA8),
+    ),
+    (
+        "Image.scaled",
+        lambda it, n: pix.Image(it.read(64), 4, 4).scaled(
+            n(9), n(5), pix.Filter.LINEAR, (n(1), n(2), n(3), n(3))
+        ),
     ),
     ("Image.pixels", lambda it, n: pix.Image(it.read(64), n(4), n(4)).pixels[0]),
     ("Matte", lambda it, n: copy.copy(pix.Matte(it.read(64), n(8), n(8), n(8)))),

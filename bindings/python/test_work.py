@@ -107,6 +107,17 @@ class Keeping(unittest.TestCase):
             )
             self.is_short(f"convert_bitmap to {to.name}", bitmap, 1 << 17)
 
+    def test_sizes(self):
+        for type in pix.PixelType:
+            size = ctypes.sizeof(type._color)
+            source = pix.Image(bytearray(noise(size << 14)), 128, 128, type=type)
+            for filter in pix.Filter:
+                for name, call in (
+                    ("larger", lambda n: source.scaled(3 * n, 256, filter)),
+                    ("smaller", lambda n: source.part((0, 0, 128, min(n, 128))).scaled(9, 7, filter)),
+                ):
+                    self.is_short(f"{filter!r}, {name}, {type}", call, 1 << 9)
+
     def test_commands(self):
         for type in pix.PixelType:
             size = ctypes.sizeof(type._color)

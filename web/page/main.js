@@ -3,6 +3,7 @@ import { Library } from './library.js';
 import { showOperators } from './operators.js';
 import { isSupported } from '../../bindings/js/pix.js';
 import { showScripts } from './scripts.js';
+import { showSizes } from './sizes.js';
 import { showText } from './text.js';
 import { element, fetched } from './view.js';
 
@@ -36,6 +37,7 @@ async function start() {
     tell(await built.json());
     showOperators(await Library.of(module));
     showText(await Library.of(module));
+    await showSizes(await Library.of(module));
     const scripts = showScripts(await Library.of(module));
     for (const part of document.querySelectorAll('.part')) part.hidden = false;
     element('state').textContent = 'The library is loaded.';

@@ -9,9 +9,14 @@
 #define SHOWN_(name) extern __typeof__(name) name __attribute__((export_name(#name)))
 SHOWN_(pix_layout);
 SHOWN_(pix_raw_run_window);
+SHOWN_(pix_raw_run_window_rgba16);
 SHOWN_(pix_raw_convert);
 SHOWN_(pix_raw_convert_bitmap);
 SHOWN_(pix_raw_format_size);
+SHOWN_(pix_raw_scale);
+SHOWN_(pix_raw_scale_rgba16);
+SHOWN_(pix_raw_scale_graya8);
+SHOWN_(pix_raw_scale_work);
 
 #include "other.c"
 

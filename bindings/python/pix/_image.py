@@ -17,8 +17,9 @@ from pix._numbers import index
 from pix._pillow import facts_of, image_of, picture_of
 from pix._pixels import RGBA8, RGBA16, PixelType, kind_of
 from pix._png import LIMIT
+from pix._scale import scaled_rows
 from pix._turns import turns
-from pix._values import Format, PixError, Status, origin_of, region_of, u32
+from pix._values import Filter, Format, PixError, Status, origin_of, region_of, u32
 from pix._views import View, rows_of
 
 
@@ -233,6 +234,33 @@ class Image(View):
         first, many = y * stride + x, (height - 1) * stride + width if width and height else 0
         held = self.pixels[first * size : (first + many) * size]
         return Image(held, width, height, stride, type)
+
+    def scaled(
+        self, width: SupportsIndex, height: SupportsIndex, filter: Filter = Filter.AREA,
+        window: Optional[Iterable[SupportsIndex]] = None,
+    ) -> Image:  # fmt: skip
+        """The picture at another size, as a new image of the same type.
+
+        With a `window`, a region (x, y, width, height) of that size, only that part is made: a viewer
+        pans and zooms without ever making the whole. Windows side by side are the whole without a
+        seam, so that threads may make one each; a long call releases the interpreter's lock.
+
+        Pixels are premultiplied and linear, so their mean is what is seen from afar. A mean of
+        straight pixels is wrong: it has the color of clear ones. An array of them becomes an Image by
+        from_array(), is scaled, and comes back by to_array(); colors of sRGB are scaled in light so.
+
+        Raises PixError, with the status NO_SIDE for a side of 0, TOO_LARGE for a side of this image
+        above 65535 or a size that is too large for its sums, and OUTSIDE for a window that is not all
+        in the new picture.
+
+        >>> image = pix.Image.new(2, 1)
+        >>> image.run(pix.copy_color((1, 0, 1, 1), pix.srgb("#fff")))
+        >>> image.scaled(1, 1)[0, 0]
+        pix.Color((32768, 32768, 32768, 32768), pix.RGBA16)
+        >>> image.scaled(6000, 3000, pix.Filter.LINEAR, window=(2990, 0, 20, 9))
+        <pix.Image 20 x 9, RGBA16>
+        """
+        return scaled_rows(self._rows, width, height, filter, window, lambda wide, high: Image.new(wide, high, self.type))
 
     def __getitem__(self, place: Tuple[SupportsIndex, SupportsIndex]) -> Color:
         """The pixel at (x, y): its channels, premultiplied and linear, and as `srgb` its color.

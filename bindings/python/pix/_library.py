@@ -22,6 +22,7 @@ LONG = 500_000
 # The others are numbers; `own` is memory that nobody else knows, and `count` a number there.
 PER_COMMAND = 64
 _RUN = "u32 u32 u32 u32 u32 own size count"
+_SCALE = "u32 u32 u32 u32 u32 u32 u32 read:{} u32 u32 u32 u32 own size"
 CALLS = {
     "pix_layout": (0, "size"),
     "pix_raw_format_size": (0, "u32"),
@@ -30,6 +31,10 @@ CALLS = {
     "pix_raw_run_window_graya8": (1, f"image:2 {_RUN}"),
     "pix_raw_convert": (16, "u32 u32 read:1 write:1 size"),
     "pix_raw_convert_bitmap": (96, "u32 u32 read:1 write:1 i64 i64 u32 u32"),
+    "pix_raw_scale": (16, f"write:4 {_SCALE.format(4)}"),
+    "pix_raw_scale_rgba16": (16, f"write:8 {_SCALE.format(8)}"),
+    "pix_raw_scale_graya8": (16, f"write:2 {_SCALE.format(2)}"),
+    "pix_raw_scale_work": (0, "u32 u32 u32 u32 u32 u32 u32 u32 u32 own"),
     "pix_raw_map_indexed": (128, "table:3 read:3 write:1"),
     "pix_raw_map_indexed_alpha": (128, "table:3 read:4 u8 u8 write:1"),
     "pix_raw_quantize_refined": (192, "read:3 u8 own size own size count"),

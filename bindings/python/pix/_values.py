@@ -165,6 +165,26 @@ class Format(IntEnum):
         return self.samples * self.bits // 8
 
 
+class Filter(IntEnum):
+    """How a pixel of a picture at another size is made of those of the source.
+
+    Columns and rows are weighed apart, in whole numbers. A pixel is the sum of all products of pixels and weights, divided by
+    the sum of the weights. It is rounded once, to the nearest, ties up.
+    """
+
+    NEAREST = 0  # the pixel under its center: for sprites
+    AREA = 1  # the mean of the area that it covers: for photographs, and for sharp enlarged pixels
+    LINEAR = 2  # by the distance of centers, as far as one pixel, of the source or of the result: smooth
+
+    @classmethod
+    def _missing_(cls, value: object) -> None:
+        """Raises an error with a hint for a value that is no filter."""
+        if isinstance(value, str):
+            name = value.upper() if value.upper() in cls.__members__ else "AREA"
+            raise TypeError(f"{value!r} is a text: write pix.Filter.{name}")
+        raise ValueError(f"{value!r} is no filter: write one as pix.Filter.AREA")
+
+
 class Status(IntEnum):
     """The statuses that the library returns."""
 
@@ -181,6 +201,11 @@ class Status(IntEnum):
     BAD_DEPTH = 13
     FULL_TABLE = 14
     BAD_STRENGTH = 15
+    NO_SIDE = 16
+    TOO_LARGE = 17
+    OUTSIDE = 18
+    SMALL_WORK = 19
+    BAD_FILTER = 20
 
 
 _TEXTS = {
@@ -196,6 +221,11 @@ _TEXTS = {
     Status.BAD_DEPTH: "indices take 1, 2, 4 or 8 bits",
     Status.FULL_TABLE: "a table has no room for a color",
     Status.BAD_STRENGTH: "errors are diffused with a strength of 0 to 16",
+    Status.NO_SIDE: "a side of the source or of the new picture is 0",
+    Status.TOO_LARGE: "a side of the source is above 65535, or the new picture is too large for its sums",
+    Status.OUTSIDE: "the window is not all in the new picture",
+    Status.SMALL_WORK: "the work memory is too small",
+    Status.BAD_FILTER: "no such filter",
 }
 
 

@@ -32,10 +32,12 @@
 
 mod library;
 mod pixel;
+mod scale;
 mod table;
 
 pub use crate::library::{LibraryFault, check_library};
 pub use crate::pixel::*;
+pub use crate::scale::*;
 pub use crate::table::*;
 
 use core::mem::{offset_of, size_of};
@@ -144,6 +146,16 @@ pub mod status {
     pub const FULL_TABLE: u32 = 14;
     /// The strength of error diffusion is above 16.
     pub const BAD_STRENGTH: u32 = 15;
+    /// A side of the source or of the new picture is 0.
+    pub const NO_SIDE: u32 = 16;
+    /// A side of the source is above 65535, or the new picture is too large for its sums.
+    pub const TOO_LARGE: u32 = 17;
+    /// The window is not all in the new picture.
+    pub const OUTSIDE: u32 = 18;
+    /// The work memory is too small.
+    pub const SMALL_WORK: u32 = 19;
+    /// No such filter.
+    pub const BAD_FILTER: u32 = 20;
 }
 
 /// A function that runs commands `C` on a window of a picture, of pixels `P`. The window's place comes after the count of its

@@ -22,7 +22,7 @@ pub enum Error {
         /// The place of the command in its list.
         index: usize,
     },
-    /// The picture to convert has a side above 2147483647, a stride below its width, or too few bytes.
+    /// The picture to convert, or the source to scale, has a side above 2147483647, a stride below its width, or too few bytes.
     Picture,
     /// The picture to convert and the picture to write have different sizes.
     OtherSize,
@@ -41,6 +41,14 @@ pub enum Error {
     Full,
     /// The strength of error diffusion is above 16.
     Strength,
+    /// A side of the source, or of the picture at another size, is 0.
+    NoSide,
+    /// A side of the source is above 65535, or the picture at another size is too large for its sums.
+    TooLarge,
+    /// The window isn't all in the picture at another size.
+    Outside,
+    /// There is less work memory than [`scale_work`](crate::scale_work) says.
+    Work,
     /// The processor is neither x86-64 with SSE4.1 nor aarch64.
     Processor,
     /// The archive has another version or layout than the crate `pix-sys`.
@@ -67,6 +75,10 @@ impl Error {
             status::BAD_INDEX => Error::Index,
             status::FULL_TABLE => Error::Full,
             status::BAD_STRENGTH => Error::Strength,
+            status::NO_SIDE => Error::NoSide,
+            status::TOO_LARGE => Error::TooLarge,
+            status::OUTSIDE => Error::Outside,
+            status::SMALL_WORK => Error::Work,
             _ => Error::Unknown { status, index },
         }
     }
@@ -94,9 +106,9 @@ impl fmt::Display for Error {
                     "command {index}: its source has a bad size or stride, or too few pixels"
                 )
             }
-            Error::Picture => f.write_str(
-                "the picture to be converted has a bad size or stride, or too few bytes",
-            ),
+            Error::Picture => {
+                f.write_str("the picture that is read has a bad size or stride, or too few bytes")
+            }
             Error::OtherSize => f.write_str(
                 "the picture to be converted has another size than the one to be written",
             ),
@@ -111,6 +123,12 @@ impl fmt::Display for Error {
             }
             Error::Full => f.write_str("a table has no room for a color"),
             Error::Strength => f.write_str("errors are diffused with a strength of 0 to 16"),
+            Error::NoSide => f.write_str("a side of the source or of the new picture is 0"),
+            Error::TooLarge => f.write_str(
+                "a side of the source is above 65535, or the new picture is too large for its sums",
+            ),
+            Error::Outside => f.write_str("the window is not all in the new picture"),
+            Error::Work => f.write_str("the work memory is too small"),
             Error::Processor => LibraryFault::Processor.fmt(f),
             Error::Library => LibraryFault::Archive.fmt(f),
             Error::Unknown { status, index } => write!(f, "command {index}: status {status}"),

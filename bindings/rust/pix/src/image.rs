@@ -71,10 +71,10 @@ impl<'a, P: Pixel> Image<'a, P> {
 /// An image that is written.
 #[derive(Debug)]
 pub struct ImageMut<'a, P> {
-    pixels: &'a mut [P],
-    width: u32,
-    height: u32,
-    stride: u32,
+    pub(crate) pixels: &'a mut [P],
+    pub(crate) width: u32,
+    pub(crate) height: u32,
+    pub(crate) stride: u32,
 }
 
 impl<'a, P: Pixel> ImageMut<'a, P> {

@@ -25,7 +25,8 @@
 //! of another version or layout, the first call fails.
 //!
 //! You can paint a picture tile by tile, with [`ImageMut::run_window`], and one image in several threads, in
-//! [`bands`](ImageMut::bands) of rows. The result is the picture painted whole.
+//! [`bands`](ImageMut::bands) of rows. The result is the picture painted whole. [`scale`] makes pictures at another size, or
+//! windows of them.
 //!
 //! # Duties of a caller
 //!
@@ -54,6 +55,7 @@ mod image;
 mod pixel;
 mod rgba_table;
 mod rows;
+mod scale;
 mod table;
 
 pub use crate::bitmap::{Bitmap, BitmapMut};
@@ -65,6 +67,7 @@ pub use crate::image::{Bands, Image, ImageMut};
 pub use crate::pixel::{Graya8, Pixel, Region, Rgba8, Rgba16, bytes, bytes_mut};
 pub use crate::rgba_table::{RgbaTable, quantize_rgba};
 pub use crate::rows::{IndexDepth, count_indices, pack_row, unpack_row};
+pub use crate::scale::{Filter, scale, scale_work};
 pub use crate::table::{
     ColorTable, DEFAULT_ROUNDS, Srgb8, Srgba8, diffuse_indexed_work, index_pixels, quantize,
     quantize_alpha, quantize_refined, quantize_refined_alpha,

@@ -5,7 +5,7 @@ use crate::error::Error;
 use crate::format::Format;
 use core::ptr::NonNull;
 use core::slice;
-use pix_sys::RunWindow;
+use pix_sys::{RunWindow, Scale};
 
 pub use pix_sys::{Graya8, Region, Rgba8, Rgba16};
 
@@ -40,14 +40,16 @@ pub trait Pixel: Copy + Default + private::Calls<Self::Matte> {
 
 pub(crate) mod private {
     use core::fmt::Debug;
-    use pix_sys::{Command, RunWindow};
+    use pix_sys::{Command, RunWindow, Scale};
 
-    /// The library's call for a kind of pixels.
+    /// The library's calls for a kind of pixels.
     pub trait Calls<M>: Sized {
         /// A command as the call reads it.
         type Raw: Copy + Debug;
 
         const RUN: RunWindow<Self, Self::Raw>;
+
+        const SCALE: Scale<Self>;
 
         /// A command with only the fields that all kinds of pixels have.
         fn raw(command: Command<Self, M>) -> Self::Raw;
@@ -68,6 +70,8 @@ impl private::Calls<u8> for Rgba8 {
 
     const RUN: RunWindow<Rgba8, Self::Raw> = pix_sys::pix_raw_run_window;
 
+    const SCALE: Scale<Rgba8> = pix_sys::pix_raw_scale;
+
     fn raw(command: pix_sys::Command<Rgba8, u8>) -> Self::Raw {
         command
     }
@@ -87,6 +91,8 @@ impl private::Calls<u16> for Rgba16 {
     type Raw = pix_sys::CommandRgba16;
 
     const RUN: RunWindow<Rgba16, Self::Raw> = pix_sys::pix_raw_run_window_rgba16;
+
+    const SCALE: Scale<Rgba16> = pix_sys::pix_raw_scale_rgba16;
 
     fn raw(command: pix_sys::Command<Rgba16, u16>) -> Self::Raw {
         pix_sys::CommandRgba16 {
@@ -111,6 +117,8 @@ impl private::Calls<u8> for Graya8 {
     type Raw = pix_sys::Command<Graya8, u8>;
 
     const RUN: RunWindow<Graya8, Self::Raw> = pix_sys::pix_raw_run_window_graya8;
+
+    const SCALE: Scale<Graya8> = pix_sys::pix_raw_scale_graya8;
 
     fn raw(command: pix_sys::Command<Graya8, u8>) -> Self::Raw {
         command

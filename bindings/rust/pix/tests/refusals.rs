@@ -128,7 +128,7 @@ fn errors_have_texts() {
     let few = image
         .convert_bitmap(Bitmap::new(&[1; 7], 2, 1, Format::Rgba8))
         .unwrap_err();
-    let picture = "the picture to be converted has a bad size or stride, or too few bytes";
+    let picture = "the picture that is read has a bad size or stride, or too few bytes";
     assert_eq!(few.to_string(), picture);
     assert_eq!(dst, [7; 8]);
 }

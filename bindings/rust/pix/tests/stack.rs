@@ -78,6 +78,24 @@ fn tables_with_alphas_are_matched_to() {
 }
 
 #[test]
+fn pictures_are_scaled() {
+    in_thread(24, || {
+        let source = vec![Rgba16::new(9, 99, 999, 9999); 96 * 96];
+        let mut pixels = vec![Rgba16::default(); 96 * 96];
+        for filter in Filter::ALL {
+            for size in [(31, 17), (300, 200)] {
+                let window = (31, 17);
+                let mut work = vec![0; scale_work::<Rgba16>(window, size, (96, 96), filter)?];
+                let mut image = ImageMut::new(&mut pixels, 31, 17);
+                let from = Image::new(&source, 96, 96);
+                scale(&mut image, (0, 0), size, &from, filter, &mut work)?;
+            }
+        }
+        Ok(())
+    });
+}
+
+#[test]
 fn images_are_painted() {
     in_thread(24, || {
         let mut pixels = vec![Rgba16::default(); 96 * 96];
