@@ -147,12 +147,7 @@ fn diffuse<P: TablePixel>(
 
 /// Sets the indices of pixels that need no entry, since the alpha of each is below `how.alpha`.
 /// `work` is how many colors of work memory there are.
-fn diffuse_transparent(
-    pixels: &[RgbaColor],
-    how: Diffusion,
-    work: usize,
-    indices: &mut [u8],
-) -> u32
+fn diffuse_transparent(pixels: &[RgbaColor], how: Diffusion, work: usize, indices: &mut [u8]) -> u32
     ensures status { result ≡ diffuse_by_alpha_status 0 how.alpha (map rgba_numbers pixels.now)
         how.width how.strength how.scan work (length indices.old) }
     ensures refused { result ≢ 0 → indices.new ≡ indices.old }
