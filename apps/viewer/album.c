@@ -79,7 +79,8 @@ static int add_folder(album *it, const char *text, size_t length, const char *sh
             free(it->names[--it->count]);
     }
     closedir(all);
-    qsort(it->names + first, it->count - first, sizeof *it->names, compare_names);
+    if (it->count > first) /* of no pictures there may be no array */
+        qsort(it->names + first, it->count - first, sizeof *it->names, compare_names);
     return 1;
 }
 

@@ -77,7 +77,7 @@ def with_clear(frames: List[Image.Image], colors: int, rounds: int, diffusion: O
     pixels = [frame.tobytes() for frame in frames]
     has_clear = any(alpha < CLEAR for frame in pixels for alpha in set(frame[3::4]))
     table = bytes(pix.quantize(b"".join(pixels), colors - has_clear, pix.SRGBA8, CLEAR, rounds))
-    how = {"format": pix.SRGBA8, "alpha": CLEAR, "transparent_index": len(table) // 3 if has_clear else 0}
+    how: Dict[str, Any] = {"format": pix.SRGBA8, "alpha": CLEAR, "transparent_index": len(table) // 3 if has_clear else 0}
     if diffusion is None:
         indices = [bytes(pix.map_indexed(table, frame, **how)) for frame in pixels]
     else:

@@ -22,8 +22,10 @@ def examples():
 
 class Examples(unittest.TestCase):
     def test_all_are_found(self):
-        names = {"Color", "srgb", "color_of", "copy_color", "composite_image_alpha", "Image"}
-        names |= {f"Image.{name}" for name in ("save", "from_pillow", "to_pillow")}
+        """Each function has one, each method of an Image, and each class that a user makes objects of."""
+        names = {name for name in pix.__all__ if isinstance(getattr(pix, name), type(examples))}
+        names |= {f"Image.{name}" for name in dir(pix.Image) if name[0] != "_" and callable(getattr(pix.Image, name))}
+        names |= {"Op", "Region", "Color", "Image", "Matte", "CommandList"}
         self.assertLessEqual(names, set(examples()))
 
     def test_each(self):

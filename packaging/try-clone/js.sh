@@ -7,5 +7,6 @@ elif have 'JavaScript' node npm; then
     try_lines README.md JavaScript painted
     try_lines docs/INSTALL.md npm painted
     try_lines CALLING.md JavaScript task_painted
+    try_lines bindings/js/README.md JavaScript painted
 fi
-ran+=('README.md clone: JavaScript' 'docs/INSTALL.md clone: npm' 'CALLING.md clone: JavaScript')
+ran+=('README.md clone: JavaScript' 'docs/INSTALL.md clone: npm' 'CALLING.md clone: JavaScript' 'bindings/js/README.md clone: JavaScript')

@@ -52,12 +52,6 @@ sys.exit("pixpaint: this is proved code, " not in said or "as cc built it here" 
 END
 }
 
-# The lines of bindings/README.md that take generated/, with the first programs beside them; then Python finds the shared object beside the package.
-pages_lines() {
-    grep -h '^    cc .* generated/' "$top/bindings/README.md" >"$work/lines.sh" && [ "$(wc -l <"$work/lines.sh")" -eq 2 ] && cd "$1" && cp bindings/first/first.* . \
-        && sh -ex "$work/lines.sh" && is_first first.ppm && PYTHONPATH=bindings/python python3 first.py && rm bindings/python/libpix_c.so first*
-}
-
 try_lines README.md shell shell_pictures
 clone=$work/clone
 step 'a clone' git clone -q "$PIX" "$clone" || finish
@@ -66,7 +60,6 @@ step './pixpaint builds the program' paints "$clone" env
 step './pixpaint once more, ten times' again "$clone" && tail -n 1 "$work/times" | sed 's/^/        /'
 step './pixpaint paints its examples' examples "$clone"
 step './pixpaint at a terminal says which program runs' at_terminal "$clone"
-step 'bindings/README.md: its lines over generated/' pages_lines "$clone"
 try_lines README.md C painted
 try_lines README.md C++ painted
 try_lines CALLING.md C task_painted

@@ -115,6 +115,10 @@ def convert_bitmap(
     Between sRGB formats of 8 bits and linear ones of 16 bits, a pixel with an alpha of at least 13 comes back unchanged.
     Below that, colors that are multiplied by the alpha may change: at an alpha of 0 they are 0. All other pairs are
     converted as by convert().
+
+    >>> light = pix.convert_bitmap(pix.SRGBA8, bytes([200, 120, 40, 255]), pix.Format.RGBA16P, size=(1, 1))
+    >>> pix.convert_bitmap(pix.Format.RGBA16P, light, pix.SRGBA8, size=(1, 1)).hex()
+    'c87828ff'
     """
     from_, to = Format(from_), Format(to)
     width, height = (None, None) if size is None else size

@@ -30,6 +30,9 @@ def convert(from_: Format, src: Any, to: Format, dst: Any = None) -> Any:
     returned. If `from_` has no alpha, it is 255. If `to` has none, the alpha is dropped. Colors that were multiplied
     by it stay so from RGBA8P and SRGBA8P to RGB8 and SRGB8; to all other formats they are divided by it. Raises
     PixError if the lengths don't fit, TypeError if `dst` is read-only, and ValueError if the two overlap.
+
+    >>> pix.convert(pix.SRGBA8, bytes([188, 188, 188, 255]), pix.Format.RGBA8P).hex()
+    '808080ff'
     """
     from_, to = Format(from_), Format(to)
     if max(from_, to) > Format.SGRAY8:

@@ -80,6 +80,10 @@ class Image(View):
         colors of sRGB. RGBA8 needs half the memory, and loses most dark colors.
 
         Raises PixError if a side is above 2147483647, and MemoryError if there is no memory.
+
+        >>> image = pix.Image.new(3, 2)
+        >>> image, image.size, len(image.pixels)
+        (<pix.Image 3 x 2, RGBA16>, (3, 2), 48)
         """
         columns, rows = u32(width, "width"), u32(height, "height")
         size = ctypes.sizeof(kind_of(type)._color)
@@ -99,6 +103,14 @@ class Image(View):
         An sRGB picture becomes light in an image of RGBA16. to_array() in the same format returns
         unpainted pixels unchanged if their alpha is at least 13. Below that the alpha comes back,
         but the colors may change: at an alpha of 0 they are 0.
+
+        Raises TypeError if the buffer has other elements or no rows of the format, and PixError if
+        it is too short.
+
+        >>> picture = bytes([200, 120, 40, 255, 0, 0, 0, 0])  # or a numpy array of (1, 2, 4)
+        >>> image = pix.Image.from_array(picture, pix.SRGBA8, size=(2, 1))
+        >>> image[0, 0].srgb
+        pix.srgb("#c87828")
         """
         width, height = (None, None) if size is None else size
         source = Bitmap(array, format, width, height, may_copy=True)
@@ -109,7 +121,19 @@ class Image(View):
 
     def to_array(self, format: Format) -> Any:
         """The picture in a format: a new numpy array of (height, width, samples), or (height,
-        width) if a pixel has one sample; a bytearray without numpy."""
+        width) if a pixel has one sample; a bytearray without numpy.
+
+        The array has the dtype uint8, or uint16 in the machine's order if the format has 16 bits a
+        channel. In a bytearray such a channel is two bytes.
+
+        Raises ValueError or TypeError if `format` is no format, PixError if the image's buffer became too short,
+        and MemoryError if there is no memory.
+
+        >>> image = pix.Image.new(2, 1)
+        >>> image.run(pix.copy_color((0, 0, 1, 1), pix.srgb("#c87828")))
+        >>> bytes(image.to_array(pix.SRGBA8)).hex(" ", 4)
+        'c87828ff 00000000'
+        """
         source, format = self._bitmap(), Format(format)
         source.refuse_unheld(Status.BAD_SOURCE)
         array = new_array(source.width, source.height, format)
@@ -132,6 +156,11 @@ class Image(View):
 
         Raises OSError if there is no such file or no whole picture in it, and ValueError if a file
         of numbers of 32 bits doesn't tell which is `white`.
+
+        >>> import io
+        >>> image = pix.Image.open(io.BytesIO(b"P6 1 1 255 \\xc8\\x78\\x28"))
+        >>> image[0, 0].srgb
+        pix.srgb("#c87828")
         """
         kind = kind_of(type)
         return opened(file, white, limit, lambda width, height: cls.new(width, height, kind))
@@ -204,7 +233,11 @@ class Image(View):
 
     def copy(self, type: Optional[PixelType] = None) -> Image:
         """A copy with pixels of its own, without padding between rows. With a `type` they are
-        converted to that kind of pixels."""
+        converted to that kind of pixels.
+
+        >>> pix.Image.new(3, 2, pix.RGBA8).copy(pix.RGBA16)
+        <pix.Image 3 x 2, RGBA16>
+        """
         kind = self.type if type is None else kind_of(type)
         source = self._bitmap()
         source.refuse_unheld(Status.BAD_SOURCE)
@@ -320,6 +353,15 @@ class Image(View):
         if the buffer is read-only, if an argument is no Command, or if a source has another type of
         pixels. Raises ValueError if a source or a matte shares memory with this image, or if a color
         is none of its type.
+
+        >>> image, red = pix.Image.new(2, 2), pix.srgb("#c80000")
+        >>> image.run(pix.copy_color((0, 0, 2, 2), pix.srgb("white")), pix.composite_color((1, -5, 9, 6), red))
+        >>> image[1, 0].srgb, image[1, 1].srgb
+        (pix.srgb("#c80000"), pix.srgb("#ffffff"))
+        >>> tile = pix.Image.new(2, 2)  # the pixels from (100, 200) to (101, 201) of a picture
+        >>> tile.run(pix.copy_color((101, 200, 1, 1), red), origin=(100, 200))
+        >>> tile[1, 0].srgb
+        pix.srgb("#c80000")
         """
         memory, _, count, width, height, stride, type = self._rows
         left, top = origin_of(origin)

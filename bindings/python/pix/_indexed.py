@@ -114,6 +114,10 @@ def map_indexed(
     pixels are below it, the table may be empty, as quantize() makes it. For a table with alphas use map_indexed_rgba().
 
     Raises PixError if the table or the lengths don't fit, and leaves `indices` as they were.
+
+    >>> table = bytes([0, 0, 0, 255, 255, 255])  # black and white
+    >>> list(pix.map_indexed(table, bytes([200, 190, 180, 30, 20, 10])))
+    [1, 0]
     """
     size = _pixel_size(format)
     alpha, transparent_index = _byte(alpha, "alpha"), _byte(transparent_index, "index")
@@ -147,6 +151,10 @@ def quantize(
     has none. No round makes the sum of the squared errors greater.
 
     The table is empty if no pixel counts. Raises PixError if `length` is not from 1 to 256, or the pixels don't fit.
+
+    >>> red, blue = bytes([255, 0, 0]), bytes([0, 0, 255])
+    >>> pix.quantize(red + blue + red, 16).hex(" ", 3)
+    'ff0000 0000ff'
     """
     size = _pixel_size(format)
     alpha, rounds, most = _byte(alpha, "alpha"), _byte(rounds, "number of rounds"), _room(length)
@@ -184,6 +192,10 @@ def diffuse_indexed(
     to left, and the shares are mirrored there. Rows are whole then; if all go one way, the last one may be short.
 
     Raises PixError if the table, the strength, the width or the lengths don't fit, and leaves `indices` as they were.
+
+    >>> table, gray = bytes([0, 0, 0, 255, 255, 255]), bytes([128, 128, 128])
+    >>> list(pix.diffuse_indexed(table, 8 * gray, 4))  # two rows of four
+    [1, 0, 1, 0, 0, 1, 0, 1]
     """
     size, share, across = _pixel_size(format), _share(strength), index(width)
     alpha, transparent_index, back = _byte(alpha, "alpha"), _byte(transparent_index, "index"), int(bool(serpentine))
@@ -211,6 +223,10 @@ def quantize_rgba(pixels: Buffer, length: SupportsIndex = 256, rounds: SupportsI
     allocates work memory of four bytes a pixel.
 
     Raises PixError if `length` is not from 1 to 256, or the pixels don't fit.
+
+    >>> clear, red = bytes(4), bytes([255, 0, 0, 255])
+    >>> pix.quantize_rgba(clear + red + clear, 16).hex(" ", 4)
+    '00000000 ff0000ff'
     """
     rounds, most = _byte(rounds, "number of rounds"), _room(length)
     source = _read(pixels)
@@ -230,6 +246,10 @@ def map_indexed_rgba(table: Buffer, pixels: Buffer, indices: Any = None) -> Any:
     equal, it is the first.
 
     Raises PixError if the table or the lengths don't fit, and leaves `indices` as they were.
+
+    >>> table = bytes([0, 0, 0, 0, 255, 0, 0, 255])  # transparent and red
+    >>> list(pix.map_indexed_rgba(table, bytes([200, 20, 10, 250, 9, 9, 9, 3])))
+    [1, 0]
     """
     entries, source = _table(table, 4), _read(pixels)
     count = _count(source, 4)
@@ -252,6 +272,10 @@ def diffuse_indexed_rgba(
     takes no errors and passes on none.
 
     Raises PixError if the table, the strength, the width or the lengths don't fit, and leaves `indices` as they were.
+
+    >>> table, half = bytes([0, 0, 0, 0, 0, 0, 0, 255]), bytes([0, 0, 0, 128])  # transparent and black
+    >>> list(pix.diffuse_indexed_rgba(table, 8 * half, 4))  # two rows of four
+    [1, 0, 1, 0, 0, 1, 0, 1]
     """
     share, across, back = _share(strength), index(width), int(bool(serpentine))
     entries, source = _table(table, 4), _read(pixels)
@@ -278,6 +302,10 @@ def index_pixels(
 
     Raises PixError with FULL_TABLE if a color has no room among `length` entries. It raises PixError too if `length` is not from 1
     to 256 or the lengths don't fit.
+
+    >>> table, indices = pix.index_pixels(b"", bytes([9, 9, 9, 200, 200, 200, 9, 9, 9]))
+    >>> table.hex(" ", 3), list(indices)
+    ('090909 c8c8c8', [0, 1, 0])
     """
     limits = bytes([_byte(channel, "threshold") for channel in threshold])
     if len(limits) != 3:
@@ -296,12 +324,19 @@ def look_up(table: Buffer, indices: Buffer, pixels: Any = None) -> Any:
     """Writes the entry of `table` for each index, three bytes each, and returns `pixels`, without which it makes a bytearray.
 
     Raises PixError if an index is past the end of the table, or the lengths don't fit, and leaves `pixels` as they were.
+
+    >>> pix.look_up(bytes([0, 0, 0, 255, 0, 0]), bytes([1, 0])).hex(" ", 3)
+    'ff0000 000000'
     """
     return _looked_up(_look_up, 3, table, indices, pixels)
 
 
 def look_up_rgba(table: Buffer, indices: Buffer, pixels: Any = None) -> Any:
-    """Does what `look_up` does, with a table of colors with an alpha, of four bytes each."""
+    """Does what `look_up` does, with a table of colors with an alpha, of four bytes each.
+
+    >>> pix.look_up_rgba(bytes([0, 0, 0, 0, 255, 0, 0, 255]), bytes([1, 0])).hex(" ", 4)
+    'ff0000ff 00000000'
+    """
     return _looked_up(_look_up_rgba, 4, table, indices, pixels)
 
 
@@ -317,7 +352,11 @@ def _looked_up(call: Call, size: int, table: Buffer, indices: Buffer, pixels: An
 
 
 def count_indices(indices: Buffer, length: SupportsIndex = 256) -> List[int]:
-    """How often each number below `length` is among the indices. Raises PixError if an index is not below it."""
+    """How often each number below `length` is among the indices. Raises PixError if an index is not below it.
+
+    >>> pix.count_indices(bytes([0, 2, 2, 3]), 4)
+    [1, 0, 2, 1]
+    """
     size = index(length)
     if size < 0:
         raise ValueError(f"length {size} is below 0")
@@ -335,7 +374,11 @@ def _bits(bits: SupportsIndex) -> int:
 
 
 def row_size(bits: SupportsIndex, count: SupportsIndex) -> int:
-    """How many bytes a row of `count` indices of 1, 2, 4 or 8 bits takes. Raises ValueError if `count` is below 0."""
+    """How many bytes a row of `count` indices of 1, 2, 4 or 8 bits takes. Raises ValueError if `count` is below 0.
+
+    >>> pix.row_size(2, 9)
+    3
+    """
     depth, many = _bits(bits), index(count)
     if many < 0:
         raise ValueError(f"count {many} is below 0")
@@ -347,6 +390,10 @@ def pack_row(bits: SupportsIndex, indices: Buffer, row: Any = None) -> Any:
 
     The indices are in order, in each byte from its most significant bits on. Unused bits of the last byte are 0. Raises PixError if
     an index takes more bits or the lengths don't fit, and leaves `row` as it was.
+
+    >>> row = pix.pack_row(2, bytes([3, 0, 1, 2, 3]))
+    >>> row.hex(), list(pix.unpack_row(2, row, count=5))
+    ('c6c0', [3, 0, 1, 2, 3])
     """
     depth = _bits(bits)
     source = _read(indices)
@@ -361,6 +408,9 @@ def unpack_row(bits: SupportsIndex, row: Buffer, indices: Any = None, count: Opt
     """Unpacks `count` indices of 1, 2, 4 or 8 bits from the bytes of a row, or fills `indices`, and returns them.
 
     Raises PixError if the row is not exactly as long as they take, and leaves `indices` as they were.
+
+    >>> list(pix.unpack_row(4, bytes([0x3F]), count=2))
+    [3, 15]
     """
     depth, many = _bits(bits), None if count is None else index(count)
     source = _read(row)

@@ -69,11 +69,12 @@ class CommandList(Sequence):
     Image.run() takes it in place of its commands, and repeats only the tests that depend on the image. The list never
     changes; the pixels of its sources are read at each run. A pickle has its commands, with pixels of their own.
 
-        screen = pix.CommandList(pix.clear(), pix.composite_image((8, 8, 16, 16), sprite))
-        for image in images:
-            image.run(screen)
-
     Raises what Image.run() raises for a bad command.
+
+    >>> sprite, images = pix.Image.new(16, 16), [pix.Image.new(64, 64) for _ in range(9)]
+    >>> screen = pix.CommandList(pix.clear(), pix.composite_image((8, 8, 16, 16), sprite))
+    >>> for image in images:
+    ...     image.run(screen)
     """
 
     __slots__ = ("_prepared",)

@@ -26,7 +26,13 @@ def _source(source: Any, wanted: Any) -> Any:
 
 
 def clear() -> Command:
-    """Makes all pixels of the image transparent: all channels 0."""
+    """Makes all pixels of the image transparent: all channels 0.
+
+    >>> image = pix.Image(bytearray([255] * 8), 2, 1)
+    >>> image.run(pix.clear())
+    >>> image.pixels.hex()
+    '0000000000000000'
+    """
     return Command(0)
 
 
@@ -51,17 +57,39 @@ def copy_image(to: _Region, source: Image, from_: Optional[_Region] = None) -> C
 
     The corners are paired: a point of `to` gets the pixel of `from_` at the same distance from the
     upper left corner.
+
+    >>> sheet, image = pix.Image.new(8, 8), pix.Image.new(4, 4)
+    >>> sheet.run(pix.copy_color((5, 5, 2, 2), pix.srgb("tomato")))
+    >>> image.run(pix.copy_image((1, 1, 2, 2), sheet, (5, 5, 2, 2)))
+    >>> image[1, 1].srgb, image[0, 0].srgb
+    (pix.srgb("#ff6347"), pix.srgb("#00000000"))
     """
     return Command(2, to, source=_source(source, Image), from_=from_)
 
 
 def composite_color(to: _Region, color: _Color, op: Op = Op.SRC_OVER) -> Command:
-    """Composites a color with the pixels of `to`."""
+    """Composites a color with the pixels of `to`, by an operator, which is pix.Op.SRC_OVER by
+    default.
+
+    >>> image = pix.Image.new(1, 1)
+    >>> image.run(pix.copy_color((0, 0, 1, 1), pix.srgb("white")))
+    >>> image.run(pix.composite_color((0, 0, 1, 1), pix.srgb("#c87828", opacity=0.5)))
+    >>> image[0, 0].srgb
+    pix.srgb("#e6cabd")
+    """
     return Command(3, to, color, op)
 
 
 def composite_image(to: _Region, source: Image, from_: Optional[_Region] = None, op: Op = Op.SRC_OVER) -> Command:
-    """Composites the pixels of `from_` in another image with those of `to`: a sprite."""
+    """Composites the pixels of `from_` in another image with those of `to`: a sprite.
+
+    >>> sprite, image = pix.Image.new(2, 1), pix.Image.new(4, 1)
+    >>> sprite.run(pix.copy_color((1, 0, 1, 1), pix.srgb("tomato")))
+    >>> image.run(pix.copy_color((0, 0, 4, 1), pix.srgb("navy")))
+    >>> image.run(pix.composite_image((1, 0, 2, 1), sprite))
+    >>> [image[x, 0].srgb for x in range(1, 4)]
+    [pix.srgb("#000080"), pix.srgb("#ff6347"), pix.srgb("#000080")]
+    """
     return Command(4, to, op=op, source=_source(source, Image), from_=from_)
 
 
@@ -69,7 +97,14 @@ def composite_matte(
     to: _Region, matte: Matte, color: _Color, from_: Optional[_Region] = None, op: Op = Op.SRC_OVER
 ) -> Command:
     """Composites a color, multiplied by the values of `from_` in a matte, with the pixels of
-    `to`: a glyph."""
+    `to`: a glyph.
+
+    >>> glyph = pix.Matte(bytes([0, 128, 255]), 3, 1)
+    >>> image = pix.Image.new(3, 1, pix.RGBA8)
+    >>> image.run(pix.composite_matte((0, 0, 3, 1), glyph, (200, 100, 0, 255)))
+    >>> image.pixels.hex(" ", 4)
+    '00000000 64320080 c86400ff'
+    """
     return Command(5, to, color, op, _source(matte, Matte), from_)
 
 
@@ -82,6 +117,13 @@ def composite_image_matte(
 
     All three corners are paired. A point is changed if it is inside all three regions, and inside
     image, source and mask.
+
+    >>> edge = pix.Matte(bytes([0, 102, 255]), 3, 1)
+    >>> photo, image = pix.Image.new(3, 1, pix.RGBA8), pix.Image.new(3, 1, pix.RGBA8)
+    >>> photo.run(pix.copy_color((0, 0, 3, 1), (200, 100, 0, 255)))
+    >>> image.run(pix.composite_image_matte((0, 0, 3, 1), photo, edge))
+    >>> image.pixels.hex(" ", 4)
+    '00000000 50280066 c86400ff'
     """
     return Command(6, to, None, op, _source(source, Image), from_, _source(mask, Matte), mask_from)
 
@@ -125,6 +167,11 @@ def repeat_image(to: _Region, source: Image, from_: Optional[_Region] = None, op
     image.run(*repeat_image(..)) paints it.
 
     A copy that begins past 2147483647 can't be in any image, and is left out.
+
+    >>> tile, image = pix.Image.new(2, 2), pix.Image.new(5, 4)
+    >>> len(pix.repeat_image((0, 0, 5, 4), tile))
+    6
+    >>> image.run(*pix.repeat_image((0, 0, 5, 4), tile))
     """
     x, y, width, height = region_of(to)
     _source(source, Image)

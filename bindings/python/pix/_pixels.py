@@ -70,7 +70,8 @@ class PixelType(Enum):
         return getattr, (PixelType, self.name)
 
 
-RGBA8, RGBA16, GRAYA8 = PixelType
+# Each by its name, for type checkers.
+RGBA8, RGBA16, GRAYA8 = PixelType.RGBA8, PixelType.RGBA16, PixelType.GRAYA8
 
 
 def kind_of(type: Any) -> PixelType:

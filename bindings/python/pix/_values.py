@@ -9,7 +9,11 @@ from pix._numbers import index
 
 class Region(NamedTuple):
     """A region in pixels: x grows to the right and y downwards. You can also pass a tuple (x, y,
-    width, height)."""
+    width, height).
+
+    >>> pix.copy_color(pix.Region(8, 8, 16, 16), pix.srgb("tomato")).to
+    (8, 8, 16, 16)
+    """
 
     x: int
     y: int
@@ -24,7 +28,28 @@ class Op(IntEnum):
     """An operator of Porter and Duff, or the sum.
 
     The term next to each operator gives each channel of the result, the alpha too. s and d are the channels of source
-    and destination, and sa and da the alphas as fractions.
+    and destination, and sa and da the alphas as fractions. Products are rounded to the nearest, and a sum saturates at
+    the maximum.
+
+        SRC        s
+        DEST       d
+        SRC_OVER   s + d * (1 - sa): the usual one
+        DEST_OVER  s * (1 - da) + d
+        SRC_OUT    s * (1 - da)
+        DEST_OUT   d * (1 - sa)
+        SRC_IN     s * da
+        DEST_IN    d * sa
+        SRC_ATOP   s * da + d * (1 - sa)
+        DEST_ATOP  s * (1 - da) + d * sa
+        XOR        s * (1 - da) + d * (1 - sa)
+        CLEAR      0
+        PLUS       s + d
+
+    >>> image = pix.Image.new(1, 1, pix.RGBA8)
+    >>> image.run(pix.copy_color((0, 0, 1, 1), (0, 0, 200, 255)))
+    >>> image.run(pix.composite_color((0, 0, 1, 1), (100, 0, 0, 128), op=pix.Op.SRC_OVER))
+    >>> image[0, 0]
+    pix.Color((100, 0, 100, 255), pix.RGBA8)
     """
 
     # made by tools/names: operators

@@ -153,6 +153,9 @@ class Matte(View):
     (height, width). There may be gaps between rows, as in a window of a numpy array.
 
     A pickle or a copy of it has values of its own, without the padding between rows.
+
+    >>> pix.Matte(bytes([0, 128, 255, 64]), 2, 2)
+    <pix.Matte 2 x 2, 8 bits>
     """
 
     def __init__(

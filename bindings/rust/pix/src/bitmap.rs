@@ -25,6 +25,17 @@ impl<'a> Bitmap<'a> {
     }
 
     /// A picture with rows that begin `stride` bytes apart.
+    ///
+    /// ```
+    /// use pix::{Bitmap, BitmapMut, Format};
+    ///
+    /// let upwards = [1, 0, 2, 0]; // two rows of a gray pixel and a byte of padding, the lower row first
+    /// let mut gray = [0; 2];
+    /// let src = Bitmap::with_stride(&upwards, 1, 2, -2, Format::SGray8);
+    /// BitmapMut::new(&mut gray, 1, 2, Format::SGray8).convert_bitmap(src)?;
+    /// assert_eq!(gray, [2, 1]);
+    /// # Ok::<(), pix::Error>(())
+    /// ```
     pub const fn with_stride(
         bytes: &'a [u8],
         width: u32,

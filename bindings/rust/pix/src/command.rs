@@ -84,21 +84,63 @@ unsafe impl<P: Pixel> Sync for Command<'_, P> {}
 
 impl<'a, P: Pixel> Command<'a, P> {
     /// Makes all pixels of the image transparent: all channels 0.
+    ///
+    /// ```
+    /// use pix::{Command, ImageMut, Rgba8};
+    ///
+    /// let mut pixels = [Rgba8::new(9, 9, 9, 255); 4];
+    /// ImageMut::new(&mut pixels, 2, 2).run(&[Command::clear()])?;
+    /// assert_eq!(pixels, [Rgba8::default(); 4]);
+    /// # Ok::<(), pix::Error>(())
+    /// ```
     pub fn clear() -> Command<'a, P> {
         Command::plain(kind::CLEAR, Op::Src, Region::default(), P::default())
     }
 
-    /// Replaces the pixels of `to` by a color.
+    /// Replaces the pixels of `to` by a color, whose channels are premultiplied and linear.
+    ///
+    /// ```
+    /// use pix::{Command, Format, ImageMut, Pixel, Region, Rgba16};
+    ///
+    /// let orange = Rgba16::color_of(Format::SRgb8, &[200, 120, 40])?; // #c87828
+    /// let mut pixels = [Rgba16::default(); 3];
+    /// ImageMut::new(&mut pixels, 3, 1).run(&[Command::copy_color(Region::new(1, 0, 1, 1), orange)])?;
+    /// assert_eq!(pixels[1], Rgba16::new(37852, 12309, 1391, 65535));
+    /// # Ok::<(), pix::Error>(())
+    /// ```
     pub fn copy_color(to: Region, color: P) -> Command<'a, P> {
         Command::plain(kind::COPY_COLOR, Op::Src, to, color)
     }
 
     /// Replaces the pixels of `to` by those of `from` in a source.
+    ///
+    /// ```
+    /// use pix::{Command, Image, ImageMut, Region, Rgba8};
+    ///
+    /// let sheet: Vec<_> = (0..16).map(|i| Rgba8::new(i, 0, 0, 255)).collect();
+    /// let (sheet, one) = (Image::new(&sheet, 4, 4), Region::new(2, 3, 1, 1));
+    /// let mut pixels = [Rgba8::default(); 2];
+    /// let copy = Command::copy_image(Region::new(1, 0, 1, 1), sheet, one);
+    /// ImageMut::new(&mut pixels, 2, 1).run(&[copy])?;
+    /// assert_eq!(pixels, [Rgba8::default(), Rgba8::new(14, 0, 0, 255)]);
+    /// # Ok::<(), pix::Error>(())
+    /// ```
     pub fn copy_image(to: Region, source: Image<'a, P>, from: Region) -> Command<'a, P> {
         Command::plain(kind::COPY_IMAGE, Op::Src, to, P::default()).with_pixels(source, from)
     }
 
     /// Composites a color with the pixels of `to`.
+    ///
+    /// ```
+    /// use pix::{Command, ImageMut, Op, Region, Rgba8};
+    ///
+    /// let (one, half) = (Region::new(0, 0, 1, 1), Rgba8::new(100, 0, 0, 128)); // half of a red
+    /// let mut pixels = [Rgba8::new(0, 0, 200, 255)];
+    /// let mut image = ImageMut::new(&mut pixels, 1, 1);
+    /// image.run(&[Command::composite_color(one, half, Op::SrcOver)])?;
+    /// assert_eq!(pixels, [Rgba8::new(100, 0, 100, 255)]);
+    /// # Ok::<(), pix::Error>(())
+    /// ```
     pub fn composite_color(to: Region, color: P, op: Op) -> Command<'a, P> {
         Command::plain(kind::COMPOSITE_COLOR, op, to, color)
     }

@@ -79,6 +79,16 @@ pub struct ImageMut<'a, P> {
 
 impl<'a, P: Pixel> ImageMut<'a, P> {
     /// An image with rows that follow each other without padding.
+    ///
+    /// ```
+    /// use pix::{Command, ImageMut, Region, Rgba8};
+    ///
+    /// let mut pixels = vec![Rgba8::default(); 64 * 48];
+    /// let mut image = ImageMut::new(&mut pixels, 64, 48);
+    /// image.run(&[Command::copy_color(Region::new(8, 8, 16, 16), Rgba8::new(200, 0, 0, 255))])?;
+    /// assert_eq!(pixels[8 * 64 + 8], Rgba8::new(200, 0, 0, 255));
+    /// # Ok::<(), pix::Error>(())
+    /// ```
     pub const fn new(pixels: &'a mut [P], width: u32, height: u32) -> ImageMut<'a, P> {
         ImageMut::with_stride(pixels, width, height, width)
     }
@@ -99,11 +109,35 @@ impl<'a, P: Pixel> ImageMut<'a, P> {
     }
 
     /// The image as a source for another one.
+    ///
+    /// ```
+    /// use pix::{Command, ImageMut, Op, Region, Rgba8};
+    ///
+    /// let (mut sprite, mut pixels) = ([Rgba8::default()], [Rgba8::default(); 2]);
+    /// let (one, red) = (Region::new(0, 0, 1, 1), Rgba8::new(200, 0, 0, 255));
+    /// let mut painted = ImageMut::new(&mut sprite, 1, 1);
+    /// painted.run(&[Command::copy_color(one, red)])?;
+    /// let at = Command::composite_image(Region::new(1, 0, 1, 1), painted.as_image(), one, Op::SrcOver);
+    /// ImageMut::new(&mut pixels, 2, 1).run(&[at])?;
+    /// assert_eq!(pixels, [Rgba8::default(), red]);
+    /// # Ok::<(), pix::Error>(())
+    /// ```
     pub const fn as_image(&self) -> Image<'_, P> {
         Image::with_stride(self.pixels, self.width, self.height, self.stride)
     }
 
     /// The image as a bitmap, to be written from another one; see [`BitmapMut`].
+    ///
+    /// ```
+    /// use pix::{Bitmap, Format, ImageMut, Rgba16};
+    ///
+    /// let file = [200, 120, 40]; // a pixel as a file has it: #c87828
+    /// let mut pixels = [Rgba16::default()];
+    /// let mut image = ImageMut::new(&mut pixels, 1, 1);
+    /// image.as_bitmap_mut().convert_bitmap(Bitmap::new(&file, 1, 1, Format::SRgb8))?;
+    /// assert_eq!(pixels, [Rgba16::new(37852, 12309, 1391, 65535)]);
+    /// # Ok::<(), pix::Error>(())
+    /// ```
     pub fn as_bitmap_mut(&mut self) -> BitmapMut<'_> {
         let stride = self.stride as usize * size_of::<P>();
         BitmapMut::with_stride(

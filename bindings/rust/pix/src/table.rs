@@ -80,6 +80,16 @@ impl<'a> ColorTable<'a> {
 
     /// Sets each index to the entry that is nearest to the pixel in the same place.
     ///
+    /// ```
+    /// use pix::{ColorTable, Srgb8};
+    ///
+    /// let gray = |v| Srgb8::new(v, v, v);
+    /// let (entries, mut indices) = ([gray(0), gray(100), gray(255)], [0; 3]);
+    /// ColorTable::new(&entries)?.map_indexed(&[gray(240), gray(90), gray(7)], &mut indices)?;
+    /// assert_eq!(indices, [2, 1, 0]);
+    /// # Ok::<(), pix::Error>(())
+    /// ```
+    ///
     /// # Errors
     ///
     /// `Length` if there are not as many indices as pixels. They are unchanged.
@@ -174,6 +184,19 @@ impl<'a> ColorTable<'a> {
 
     /// Sets the index of each pixel by error diffusion, like [`diffuse_indexed`](ColorTable::diffuse_indexed), for pixels with
     /// an alpha. A pixel with an alpha below `alpha` gets the index `transparent_index`, and passes on no error.
+    ///
+    /// ```
+    /// use pix::{ColorTable, Srgb8, Srgba8, diffuse_indexed_work};
+    ///
+    /// let entries = [Srgb8::new(0, 0, 0), Srgb8::new(255, 255, 255)];
+    /// let (gray, clear) = (Srgba8::new(128, 128, 128, 255), Srgba8::new(9, 9, 9, 0));
+    /// let mut work = vec![Srgb8::default(); diffuse_indexed_work(4).unwrap()];
+    /// let mut indices = [9; 4];
+    /// let pixels = [gray, gray, clear, gray];
+    /// ColorTable::new(&entries)?.diffuse_indexed_alpha(&pixels, 4, 128, 2, &mut work, &mut indices)?;
+    /// assert_eq!(indices, [1, 0, 2, 1]);
+    /// # Ok::<(), pix::Error>(())
+    /// ```
     ///
     /// # Errors
     ///
