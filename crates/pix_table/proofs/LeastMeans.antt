@@ -21,7 +21,7 @@ square_down x y d e =
     let some : x - y ≡ d = omega arith in
     rw (none, some, e) (omega arith)
 
-square : (x y : ℕ) → squared_difference x y + 2 * (x * y) ≡ x * x + y * y
+pub square : (x y : ℕ) → squared_difference x y + 2 * (x * y) ≡ x * x + y * y
 square x y = elim (cases_lt x y) [
   | inl b ↦ square_up x y (y - x) (omega arith)
   | inr b ↦ square_down x y (x - y) (omega arith)
@@ -52,7 +52,7 @@ below n s e d some few =
     let times : d * (n * (2 * e + d)) ≤ d * (2 * s) = mul-le-mul_left d least in
     omega (arith, times)
 
-least_by : (n s m e : ℕ) → 2 * (n * m) ≤ 2 * s + n → 2 * s + n < 2 * (n * m) + 2 * n → n * (m * m) + 2 * (e * s) ≤ n * (e * e) + 2 * (m * s)
+pub least_by : (n s m e : ℕ) → 2 * (n * m) ≤ 2 * s + n → 2 * s + n < 2 * (n * m) + 2 * n → n * (m * m) + 2 * (e * s) ≤ n * (e * e) + 2 * (m * s)
 least_by n s m e low high = elim (cases_order m e) [
   | inl same ↦ rw same (omega arith)
   | inr o ↦ elim o [
@@ -66,7 +66,7 @@ least_by n s m e low high = elim (cases_order m e) [
 ]
 
 -- so the mean in a channel is the least, and the mean of a box
-mean_is : (n s : ℕ) → 0 < n → (2 * (n * ((2 * s + n) / (2 * n))) ≤ 2 * s + n) × (2 * s + n < 2 * (n * ((2 * s + n) / (2 * n))) + 2 * n)
+pub mean_is : (n s : ℕ) → 0 < n → (2 * (n * ((2 * s + n) / (2 * n))) ≤ 2 * s + n) × (2 * s + n < 2 * (n * ((2 * s + n) / (2 * n))) + 2 * n)
 mean_is n s some =
     let low : (2 * s + n) / (2 * n) * (2 * n) ≤ 2 * s + n = div-mul-le_self (2 * s + n) (2 * n) in
     let twice : 0 < 2 * n = omega arith in

@@ -77,3 +77,11 @@ pub mod FewGroups
 pub mod BlockKeys
 pub mod GapLanes
 pub mod Singles
+pub mod Totals
+pub mod SpanErrors
+pub mod Crossed
+pub mod Turns
+pub mod LeastParts
+pub mod LevelLemmas
+pub mod PartLemmas
+pub mod GrayTables

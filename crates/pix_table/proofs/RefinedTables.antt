@@ -6,7 +6,8 @@ use Rattle.std.proofs.lemmas.List.Sums.{sum_by-cons, sum_by-append}
 use Rattle.std.proofs.lemmas.List.Sorted.{sum_by-IsPermutation, IsPermutation-sym, IsPermutation-trans}
 use Rattle.std.proofs.lemmas.List.Elements.{All-head, All-tail, All-from_get_or}
 use Rattle.pix_table.specs.Nearest.{IsNearestBy}
-use Rattle.pix_table.specs.Refine.{IsRoundBy, AreRoundsBy, least_distance_by, squared_error_by}
+use Rattle.pix_table.specs.Refine.{IsRoundBy, AreRoundsBy}
+use Rattle.pix_table.specs.SquaredErrors.{least_distance_by, squared_error_by}
 
 -- the sum of lists that are joined, and sums that are compared term by term
 sum_joined : (f : List ℕ → ℕ) (groups : List (List (List ℕ))) → sum_by f (flat_map (λ group. group) groups) ≡ sum_by (λ group. sum_by f group) groups
@@ -59,11 +60,18 @@ module _ (apart : List ℕ → List ℕ → ℕ) where
       no_less k (min far (apart e color)) color entries (omega arith) (All-tail (λ x. k ≤ apart x color) e entries all)
 
   -- it is not more than that of any entry, and that of the nearest is not more
-  least_le : (entries : List (List ℕ)) (color : List ℕ) (i : ℕ) → i < length entries → least_distance_by apart entries color ≤ apart_to entries color i
+  pub least_le : (entries : List (List ℕ)) (color : List ℕ) (i : ℕ) → i < length entries → least_distance_by apart entries color ≤ apart_to entries color i
   unfolding least_from
   least_le [] color i h = omega arith
   least_le (e ∷ entries) color zero h = no_more (apart e color) color entries
   least_le (e ∷ entries) color (suc i) h = at_most_each (apart e color) color entries i (omega arith)
+
+  -- what is at most the distance of each entry is at most the least
+  pub least_ge : (k : ℕ) (e : List ℕ) (entries : List (List ℕ)) (color : List ℕ) → All (λ x. k ≤ apart x color) (e ∷ entries)
+      → k ≤ least_distance_by apart (e ∷ entries) color
+  unfolding least_from
+  least_ge k e entries color all =
+      no_less k (apart e color) color entries (All-head (λ x. k ≤ apart x color) e entries all) (All-tail (λ x. k ≤ apart x color) e entries all)
 
   nearest_le : (entries : List (List ℕ)) (color : List ℕ) (i : ℕ) → IsNearestBy apart entries color i
       → apart_to entries color i ≤ least_distance_by apart entries color

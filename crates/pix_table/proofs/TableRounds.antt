@@ -4,14 +4,22 @@ use Rattle.std.proofs.Common.{◌≡◌, ℕ, zero, suc, ◌≤◌, List, Option
 use Rattle.pix_table.specs.Cut.{IsCutTable}
 use Rattle.pix_table.specs.Quantization.{IsQuantized}
 use Rattle.pix_table.specs.Nearest.{distance}
-use Rattle.pix_table.specs.Refine.{AreRounds, AreRoundsBy, IsQuantizedRefined, IsRefinedCut, IsRoundBy, refined, squared_error}
+use Rattle.pix_table.specs.Refine.{AreRounds, AreRoundsBy, IsQuantizedRefined, IsRefinedCut, IsRoundBy, refined}
+use Rattle.pix_table.specs.SquaredErrors.{squared_error}
+use Rattle.pix_table.specs.Grays.{IsLeastOr}
 use Rattle.pix_table.proofs.LeastMeans.{refined_least}
 use Rattle.pix_table.proofs.RefinedTables.{rounds_moved, error_moved, round_falls}
+
+-- of grays the table is the least, whatever is said of others
+least_or : (P Q : Type 0) (room : ℕ) (colors table : List (List ℕ)) → (P → Q) → IsLeastOr P room colors table → IsLeastOr Q room colors table
+least_or P Q room colors table f (inl h) = inl h
+least_or P Q room colors table f (inr h) = inr (h.0, f h.1)
 
 -- no rounds leave the table of the cut
 pub unrefined : (room : ℕ) (colors table : List (List ℕ)) → IsQuantizedRefined 0 room colors table → IsQuantized room colors table
 unrefined room colors table (inl fit) = inl fit
-unrefined room colors table (inr h) = inr (h.0, subst (IsCutTable room colors) (sym h.1.2) h.1.1)
+unrefined room colors table (inr h) =
+    inr (h.0, least_or (IsRefinedCut 0 room colors table) (IsCutTable room colors table) room colors table (λ k. subst (IsCutTable room colors) (sym k.2) k.1) h.1)
 
 -- what holds of the number of an answer, since something else does
 pub of_some : (P : Type 0) (Q R : ℕ → Type 0) → ((n : ℕ) → Q n → R n) → (answer : Option ℕ) → MatchOption answer P Q → MatchOption answer P R

@@ -17,6 +17,11 @@ pub mod SeenSums
 pub mod PartSums
 pub mod ColorGroups
 pub mod BlockBounds
+pub mod SquaredErrors
+pub mod Grays
+pub mod Totals
+pub mod Turns
+pub mod GrayLevels
 pub mod Quantization
 pub mod Refine
 pub mod Groups

@@ -3,6 +3,7 @@ use Rattle.std.specs.Prelude.{◌⊎◌, ◌≡◌, ℕ, ◌<◌, ◌≤◌, Lis
 use Rattle.std.specs.List.{list_any}
 use Rattle.pix_table.specs.Nearest.{alpha_of}
 use Rattle.pix_table.specs.Cut.{IsCutTable}
+use Rattle.pix_table.specs.Grays.{IsLeastOr}
 
 -- the color of a pixel: its first three numbers
 abbrev pub color_of : List ℕ → List ℕ
@@ -29,6 +30,8 @@ abbrev pub distinct : List (List ℕ) → List (List ℕ)
 distinct colors = distinct_by same_color colors
 
 -- the table of a list of colors, of at most a number of entries: its distinct colors, where there
--- is room for them, and else that of the cut by squared error
+-- is room for them; else the least, where all are grays; and else that of the cut by squared error
 abbrev pub IsQuantized : ℕ → List (List ℕ) → List (List ℕ) → Type 0
-IsQuantized room colors table = ((length (distinct colors) ≤ room) × (table ≡ distinct colors)) ⊎ ((room < length (distinct colors)) × IsCutTable room colors table)
+IsQuantized room colors table =
+    ((length (distinct colors) ≤ room) × (table ≡ distinct colors))
+    ⊎ ((room < length (distinct colors)) × IsLeastOr (IsCutTable room colors table) room colors table)

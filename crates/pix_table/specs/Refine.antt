@@ -1,9 +1,11 @@
 -- Rounds by which a table fits a list of colors better (S. Lloyd, Least squares quantization in PCM,
 -- 1982).
-use Rattle.std.specs.Prelude.{◌⊎◌, ◌≡◌, ℕ, zero, suc, ◌<◌, ◌≤◌, List, [], ◌∷◌, length, fold, min, slice_index_or, All, sum_by, IsPermutation}
+use Rattle.std.specs.Prelude.{◌⊎◌, ◌≡◌, ℕ, zero, suc, ◌<◌, ◌≤◌, List, [], ◌∷◌, length, slice_index_or, All, IsPermutation}
 use Rattle.std.specs.List.{flat_map}
 use Rattle.pix_table.specs.Nearest.{distance, IsNearestBy}
 use Rattle.pix_table.specs.Cut.{mean, IsCutTable}
+use Rattle.pix_table.specs.SquaredErrors.{squared_error, squared_error_by}
+use Rattle.pix_table.specs.Grays.{IsLeastOr}
 use Rattle.pix_table.specs.Quantization.{distinct}
 
 -- the colors of each entry, in any order: those to which it is the nearest, the first of equals
@@ -25,15 +27,6 @@ AreRoundsBy apart settle zero colors old new = new ≡ old
 AreRoundsBy apart settle (suc n) colors old new =
     (next : List (List ℕ)) × IsRoundBy apart settle colors old next × AreRoundsBy apart settle n colors next new
 
--- how far the nearest of some entries is from a color
-abbrev pub least_distance_by : (apart : List ℕ → List ℕ → ℕ) → List (List ℕ) → List ℕ → ℕ
-least_distance_by apart [] color = 0
-least_distance_by apart (entry ∷ entries) color = fold (λ least e. min least (apart e color)) (apart entry color) entries
-
--- the sum of the squared errors of a list of colors, each of which is shown by its nearest entry
-abbrev pub squared_error_by : (apart : List ℕ → List ℕ → ℕ) → (entries colors : List (List ℕ)) → ℕ
-squared_error_by apart entries colors = sum_by (λ color. least_distance_by apart entries color) colors
-
 -- no round makes the squared error of some colors greater, whatever entries it begins with
 abbrev pub NoRoundIsWorseBy : (apart : List ℕ → List ℕ → ℕ) (settle : List ℕ → List (List ℕ) → List ℕ) → (colors : List (List ℕ)) → Type 0
 NoRoundIsWorseBy apart settle colors =
@@ -54,12 +47,6 @@ IsRound colors old new = IsRoundBy distance refined colors old new
 abbrev pub AreRounds : ℕ → (colors old new : List (List ℕ)) → Type 0
 AreRounds n colors old new = AreRoundsBy distance refined n colors old new
 
-abbrev pub least_distance : List (List ℕ) → List ℕ → ℕ
-least_distance entries color = least_distance_by distance entries color
-
-abbrev pub squared_error : (entries colors : List (List ℕ)) → ℕ
-squared_error entries colors = squared_error_by distance entries colors
-
 -- the table of the cuts after so many rounds, none of which makes the squared error greater
 abbrev pub IsRefinedCut : (rounds room : ℕ) → (colors table : List (List ℕ)) → Type 0
 IsRefinedCut rounds room colors table =
@@ -67,8 +54,8 @@ IsRefinedCut rounds room colors table =
     × (squared_error table colors ≤ squared_error first colors) × NoRoundIsWorseBy distance refined colors
 
 -- the table of a list of colors after so many rounds, of at most so many entries: its distinct colors,
--- where there is room for them, and else that of the cuts, refined
+-- where there is room for them; else the least, where all are grays; and else that of the cuts, refined
 abbrev pub IsQuantizedRefined : (rounds room : ℕ) → (colors table : List (List ℕ)) → Type 0
 IsQuantizedRefined rounds room colors table =
     ((length (distinct colors) ≤ room) × (table ≡ distinct colors))
-    ⊎ ((room < length (distinct colors)) × IsRefinedCut rounds room colors table)
+    ⊎ ((room < length (distinct colors)) × IsLeastOr (IsRefinedCut rounds room colors table) room colors table)

@@ -2,7 +2,8 @@
 use Rattle.std.specs.Prelude.{◌⊎◌, ◌≡◌, ℕ, ◌*◌, ◌<◌, ◌≤◌, Bool, List, [], ◌∷◌, ◌&&◌, length, map, slice_index, count_by, sum_by, nat_eq, nat_le, nat_lt, if◌then◌else◌}
 use Rattle.pix_table.specs.Nearest.{alpha_of}
 use Rattle.pix_table.specs.Quantization.{distinct_by, same_color}
-use Rattle.pix_table.specs.Refine.{AreRoundsBy, IsRoundBy, NoRoundIsWorseBy, squared_error_by}
+use Rattle.pix_table.specs.Refine.{AreRoundsBy, IsRoundBy, NoRoundIsWorseBy}
+use Rattle.pix_table.specs.SquaredErrors.{squared_error_by}
 use Rattle.pix_table.specs.Seen.{made_opaque, seen, seen_distance, straight}
 use Rattle.pix_table.specs.SeenCut.{IsSeenCutTable, seen_mean}
 

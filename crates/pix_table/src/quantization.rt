@@ -6,10 +6,12 @@ ghost use Rattle.std.specs.Simd.{first_chunks};
 ghost use Rattle.pix_table.specs.Items.{IsItem, pair_items, spread, times_of};
 ghost use Rattle.pix_table.specs.Nearest.{numbers};
 ghost use Rattle.pix_table.specs.Quantization.{shown, same_color, distinct, IsQuantized};
+ghost use Rattle.pix_table.specs.Grays.{IsLeastOr};
 ghost use Rattle.pix_table.specs.Refine.{IsQuantizedRefined, IsRefinedCut};
 
 use crate::color::{Color, TablePixel};
 use crate::color_items::cut_table;
+use crate::grays::{are_grays, least_table};
 use crate::hints::Hints;
 use crate::items::{Counted, count_pairs};
 use crate::refine::{refine, refine_items};
@@ -104,7 +106,7 @@ fn quantize_shown<P: TablePixel>(
     let count = gather(pixels, alpha, work);
     match distinct(&work[..count], entries) {
         Some(made) => made,
-        None => cut_and_refine(pixels, alpha, rounds, work, count, entries),
+        None => made_table(pixels, alpha, rounds, work, count, entries),
     }
 }
 
@@ -123,6 +125,37 @@ fn gather<P: TablePixel>(pixels: &[P], alpha: u8, work: &mut [Color]) -> usize
         }
     }
     count
+}
+
+/// Writes the table into the first of the entries where there is no room for all distinct colors,
+/// and returns their number: that of grays where all are grays, and else that of the cut. The first
+/// `count` of `work` are the colors of the pixels whose alpha is not below `alpha`.
+///
+/// Condition: there is a color, and there are 1 to 256 entries.
+fn made_table<P: TablePixel>(
+    pixels: &[P],
+    alpha: u8,
+    rounds: u8,
+    work: &mut [Color],
+    count: usize,
+    entries: &mut [Color],
+) -> usize
+    requires work { length pixels.now ≤ length work.old }
+    requires inside { count ≤ length work.old }
+    requires some { 0 < count }
+    requires gathered { map numbers (take count work.old) ≡ shown alpha (map P.values pixels.now) }
+    requires room { 0 < length entries.old }
+    requires few { length entries.old ≤ 256 }
+    ensures within { result ≤ length entries.new }
+    ensures table { IsLeastOr (IsRefinedCut rounds (length entries.old)
+        (shown alpha (map P.values pixels.now)) (map numbers (take result entries.new)))
+        (length entries.old) (shown alpha (map P.values pixels.now))
+        (map numbers (take result entries.new)) }
+{
+    if are_grays(&work[..count]) {
+        return least_table(&work[..count], entries);
+    }
+    cut_and_refine(pixels, alpha, rounds, work, count, entries)
 }
 
 /// Writes the table of the cut into the first of the entries, moves them by `rounds` rounds, and

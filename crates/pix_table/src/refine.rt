@@ -2,7 +2,8 @@
 ghost use Rattle.std.specs.Prelude.{◌≡◌, ◌<◌, ◌≤◌, ◌+◌, ◌*◌, ◌^◌, ℕ, All, IsPermutation, List, false, length, map, slice_index_or, sum_by, take};
 ghost use Rattle.pix_table.specs.InverseMap.{word_color};
 ghost use Rattle.pix_table.specs.Nearest.{numbers};
-ghost use Rattle.pix_table.specs.Refine.{AreRounds, IsRound, squared_error};
+ghost use Rattle.pix_table.specs.Refine.{AreRounds, IsRound};
+ghost use Rattle.pix_table.specs.SquaredErrors.{squared_error};
 ghost use Rattle.pix_table.specs.Groups.{AreItemGroups, AreOfBytes, AreOfFewBytes, IsTogether};
 ghost use Rattle.pix_table.specs.Items.{AreItemsOf, IsItem, item_sum, pair_items, spread, times_of};
 

@@ -1,7 +1,8 @@
 -- Of `refine_seen`: that what is made of the items is made of the colors.
 use Rattle.std.proofs.Common.{◌≤◌, map, arith, refl, subst, sym}
 use Rattle.std.proofs.lemmas.List.{length-map}
-use Rattle.pix_table.specs.Refine.{AreRoundsBy, squared_error_by}
+use Rattle.pix_table.specs.Refine.{AreRoundsBy}
+use Rattle.pix_table.specs.SquaredErrors.{squared_error_by}
 use Rattle.pix_table.specs.Seen.{seen_distance, seen_numbers}
 use Rattle.pix_table.specs.SeenTables.{opaque_settled, seen_settled}
 use Rattle.pix_table.proofs.SeenRounds.{round_stays}
