@@ -529,11 +529,12 @@ static inline size_t pix_diffuse_indexed_work(size_t width);
 enum { PIX_DEFAULT_ROUNDS = 6 };
 
 /* Writes a table of the colors of `count` pixels, of at most `len` entries, and writes into `made`
- * how many it has. Where there are no more distinct colors than `len`, they are the table, in
- * order of first place. Otherwise they are the means of boxes of colors, which six rounds then
- * refine. Boxes are split, always by the split that reduces the squared error most, and then those
- * pairs are merged that raise it least. Both are compared by quotients rounded down, so of nearly
- * equal ones another may be taken. The entries past `made` may hold anything. `work` has
+ * how many it has. Where there are no more distinct colors than `len`, they are the table, in order
+ * of first place. Otherwise, where all are grays, no table of at most `len` entries has a smaller
+ * squared error. Otherwise they are the means of boxes of colors, which six rounds then refine.
+ * Boxes are split, always by the split that reduces the squared error most, and then those pairs
+ * are merged that raise it least. Both are compared by quotients rounded down, so of nearly equal
+ * ones another may be taken. The entries past `made` may hold anything. `work` has
  * pix_quantize_work(count) colors; for a large picture pass a sample of its pixels. Returns PIX_OK,
  * PIX_BAD_TABLE (`len` is 0 or above 256), PIX_BAD_LENGTH, PIX_NULL or PIX_OVERLAP.
  *
@@ -550,12 +551,13 @@ static inline pix_status pix_quantize(const pix_srgb8 *pixels, size_t count, pix
 static inline pix_status pix_quantize_alpha(const pix_srgba8 *pixels, size_t count, uint8_t alpha, pix_srgb8 *work,
                                             pix_srgb8 *entries, size_t len, size_t *made);
 
-/* Write a table as pix_quantize and pix_quantize_alpha do, with another number of rounds. In a round
- * each color goes to its nearest entry, the first if several are equal. Each entry goes to the mean
- * of its colors, rounded, and stays where it has none. No round makes the sum of the squared errors
- * greater. A round takes about as long as pix_map_indexed of the distinct colors, so less than that
- * of the pixels where colors come again. PIX_DEFAULT_ROUNDS are enough for most pictures; without a
- * round a table is made sooner, and fits the picture less. */
+/* Write a table as pix_quantize and pix_quantize_alpha do, with another number of rounds. In a
+ * round each color goes to its nearest entry, the first if several are equal. Each entry goes to
+ * the mean of its colors, rounded, and stays where it has none. No round makes the sum of the
+ * squared errors greater, and none moves a table of grays. A round takes about as long as
+ * pix_map_indexed of the distinct colors, so less than that of the pixels where colors come again.
+ * PIX_DEFAULT_ROUNDS are enough for most pictures; without a round a table is made sooner, and fits
+ * the picture less. */
 static inline pix_status pix_quantize_refined(const pix_srgb8 *pixels, size_t count, uint8_t rounds, pix_srgb8 *work,
                                               pix_srgb8 *entries, size_t len, size_t *made);
 static inline pix_status pix_quantize_refined_alpha(const pix_srgba8 *pixels, size_t count, uint8_t alpha, uint8_t rounds,

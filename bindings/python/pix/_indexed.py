@@ -143,15 +143,16 @@ def quantize(
 ) -> bytearray:
     """Makes a table of at most `length` colors of the pixels, three bytes each: red, green and blue in sRGB.
 
-    The pixels are of the format SRGB8, or of SRGBA8; pixels with an alpha below `alpha` don't count. If there are at most `length`
-    distinct colors, they are the table, in order of first place. Otherwise, the colors are split into boxes, always by the split
-    that reduces the squared error most. Then the pairs of boxes that raise it least are merged, and the entries are the means of
-    the boxes. Errors are compared by quotients rounded down, so of nearly equal ones another may be chosen. It allocates work
-    memory of three bytes a pixel; for a large picture pass a sample, such as every tenth pixel.
+    The pixels are of the format SRGB8, or of SRGBA8; pixels with an alpha below `alpha` don't count. If there are at most
+    `length` distinct colors, they are the table, in order of first place. Otherwise, if all are grays, no table of at most
+    `length` colors has a smaller squared error. Otherwise, the colors are split into boxes, always by the split that reduces the
+    squared error most. Then the pairs of boxes that raise it least are merged, and the entries are the means of the boxes. Errors
+    are compared by quotients rounded down, so of nearly equal ones another may be chosen. It allocates work memory of three bytes
+    a pixel; for a large picture pass a sample, such as every tenth pixel.
 
-    `rounds`, 0 to 255, is how often such means are then refined: six times, unless it says another number. In a round each color
-    goes to its nearest entry, the first if several are equal. Each entry goes to the mean of its colors, rounded, and stays if it
-    has none. No round makes the sum of the squared errors greater.
+    `rounds`, 0 to 255, is how often such means of boxes are then refined: six times, unless it says another number. In a round
+    each color goes to its nearest entry, the first if several are equal. Each entry goes to the mean of its colors, rounded, and
+    stays if it has none. No round makes the sum of the squared errors greater.
 
     The table is empty if no pixel counts. Raises PixError if `length` is not from 1 to 256, or the pixels don't fit.
     """

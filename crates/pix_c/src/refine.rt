@@ -13,7 +13,8 @@ use pix_table::{Color, RgbaColor, TablePixel, quantize_refined};
 /// Does what [`pix_raw_quantize`](crate::table::pix_raw_quantize) does. Where there are more
 /// distinct colors than entries, `rounds` rounds then refine the table. In a round each color goes
 /// to its nearest entry, the first of equals. Each entry goes to the mean of its colors, rounded,
-/// and stays where it has none. No round makes the sum of the squared errors greater.
+/// and stays where it has none. No round makes the sum of the squared errors greater. None moves a
+/// table of grays.
 #[unsafe(no_mangle)]
 pub extern "C" fn pix_raw_quantize_refined(
     pixels: &[Color],

@@ -29,7 +29,8 @@ pub fn quantize_work(pixels: usize) -> usize
 /// where `work` has fewer colors than [`quantize_work`] says.
 ///
 /// Pixels whose alpha is below `alpha` do not count. With no more distinct colors than entries,
-/// they are the table, in order of first place. Else it is made by the cut by squared error: boxes
+/// they are the table, in order of first place. Else, of grays alone, it has the least squared error
+/// of all tables of at most so many entries. Else it is made by the cut by squared error: boxes
 /// of colors are cut where the squared error falls most, into twice as many as there are entries,
 /// but at most 64 more. Then pairs of boxes become one where it rises least, until there are no
 /// more of them than entries. A rise is a difference of quotients rounded down, and at least 0, so
@@ -62,7 +63,7 @@ pub fn quantize<P: TablePixel>(
 /// the mean of its colors, to the nearest whole number in each channel, ties up. An entry without
 /// colors stays. No round makes the sum of the squared errors greater: of each pixel that counts,
 /// the squares of the differences to its nearest entry in red, green and blue. Distinct colors for
-/// which there is room are the table, and no round moves them.
+/// which there is room are the table, and no round moves them. Nor does one move a table of grays.
 ///
 /// The rounds are those of S. Lloyd, *Least squares quantization in PCM*, 1982.
 pub fn quantize_refined<P: TablePixel>(

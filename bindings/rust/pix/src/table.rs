@@ -232,11 +232,12 @@ pub const fn diffuse_indexed_work(width: usize) -> Option<usize> {
 pub const DEFAULT_ROUNDS: u8 = 6;
 
 /// Makes a table of the colors of `pixels` in the first of `entries`, and returns those. If there are no more distinct colors
-/// than entries, they are the table, in order of first place. Otherwise, the colors are split into boxes, always by the split
-/// that reduces the squared error most. Then the pairs of boxes that raise it least are merged, and the entries are the means
-/// of the boxes, which six rounds refine ([`quantize_refined`]). Errors are compared by quotients rounded down, so of nearly equal ones another may be chosen. The contents of
-/// the other entries are unspecified. `work` has exactly as many colors as there are pixels; for a large picture pass a sample
-/// of its pixels.
+/// than entries, they are the table, in order of first place. Otherwise, if all are grays, no table of at most as many
+/// entries has a smaller squared error. Otherwise, the colors are split into boxes, always by the split that reduces the
+/// squared error most. Then the pairs of boxes that raise it least are merged, and the entries are the means of the boxes,
+/// which six rounds refine ([`quantize_refined`]). Errors are compared by quotients rounded down, so of nearly equal ones
+/// another may be chosen. The contents of the other entries are unspecified. `work` has exactly as many colors as there are
+/// pixels; for a large picture pass a sample of its pixels.
 ///
 /// ```
 /// use pix::{Srgb8, quantize};

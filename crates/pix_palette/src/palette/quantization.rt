@@ -32,9 +32,10 @@ pub(super) const WHOLE: u8 = 16;
 
 impl ColorTable {
     /// Makes a table of the colors of a raster, of at most `limit` entries. Where the raster has no
-    /// more distinct colors than that, the entries are those colors in order of first place. Else
-    /// they are the means of boxes of colors, by the cut by squared error. Returns `None`
-    /// where the limit is 0 or above 256.
+    /// more distinct colors than that, the entries are those colors in order of first place. Else,
+    /// of grays alone, no table of so many entries has a smaller squared error. Else they are the
+    /// means of boxes of colors, by the cut by squared error. Returns `None` where the limit is 0 or
+    /// above 256.
     ///
     /// Pixels whose alpha is below `alpha` do not count. With an `alpha` of 0 every pixel counts.
     /// To keep an index for the others, make a table of one entry less than there may be indices.
@@ -75,7 +76,8 @@ impl ColorTable {
     /// Does what [`ColorTable::quantize`] does. Where there are more distinct colors than
     /// `limit`, `rounds` rounds then refine the table. In a round each color goes to its nearest
     /// entry, the first of equals. Each entry goes to the mean of its colors, rounded, and stays
-    /// where it has none. No round makes the sum of the squared errors greater.
+    /// where it has none. No round makes the sum of the squared errors greater. None moves a table
+    /// of grays.
     ///
     /// # Errors
     ///
