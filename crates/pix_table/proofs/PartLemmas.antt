@@ -1,11 +1,12 @@
 -- Levels of gray in so many parts, as they are found and written.
-use Rattle.std.proofs.Common.{◌⊎◌, ◌≡◌, ℕ, zero, suc, ◌+◌, ◌*◌, ◌-◌, ◌<◌, ◌≤◌, ◌≢◌, List, [], ◌∷◌, ◌++◌, length, set, get_or, min, replicate, All, refl, arith, ap, sym, ◌∙◌, inl, inr, add-one, length-set, get_or-set_other, get_or-set_same}
+use Rattle.std.proofs.Common.{◌⊎◌, ◌≡◌, ℕ, zero, suc, ◌+◌, ◌*◌, ◌-◌, ◌<◌, ◌≤◌, ◌≢◌, List, [], ◌∷◌, ◌++◌, length, set, get_or, min, replicate, All, refl, arith, ap, sym, ◌∙◌, inl, inr, length-set, get_or-set_other, get_or-set_same}
 use Rattle.std.proofs.lemmas.Bool.{cases_lt, cases_eq}
 use Rattle.std.proofs.lemmas.List.{get_or-replicate, get_or_past, length-replicate}
+use Rattle.std.proofs.lemmas.List.Elements.{All-cons, All-head, All-nil, All-tail}
 use Rattle.pix_table.specs.Nearest.{distance, squared_difference}
 use Rattle.pix_table.specs.Totals.{total, error_between}
 use Rattle.pix_table.specs.Turns.{IsFirst, IsNext, NoneSooner}
-use Rattle.pix_table.specs.GrayLevels.{AreLeast, AreSumsOf, error_by, error_of, mean_of, start_at}
+use Rattle.pix_table.specs.GrayLevels.{AreLeast, AreSumsOf, error_by, error_of, mean_of, near, start_at}
 use Rattle.pix_table.specs.declared.gray_levels.LevelSums.{LevelSums}
 use Rattle.pix_table.proofs.Totals.{grows}
 use Rattle.pix_table.proofs.SpanErrors.{error_to, made, mean}
@@ -73,9 +74,9 @@ one_found c d e errors starts latest i b error level few q h stands small made l
       latest = λ k l m. let s : k ≡ b = omega arith in rw s (sym start_here);
     }
 
-pub all_found : (c : ℕ → ℕ → ℕ) (d : ℕ) (e : ℕ → ℕ) (errors starts : List ℕ) (latest : ℕ) → AreFound c d e errors starts latest d
+pub all_found : (c : ℕ → ℕ → ℕ) (d : ℕ) (e : ℕ → ℕ) (errors starts : List ℕ) (late i : ℕ) → d ≤ i → AreFound c d e errors starts late i
     → IsNext c d e (λ b. get_or errors b 0) (λ b. get_or starts b 0)
-all_found c d e errors starts latest h = record {
+all_found c d e errors starts late i all h = record {
   none = h.none;
   stands = λ b l. h.stands b l (omega arith);
   made = λ b l. h.made b l (omega arith);
@@ -112,23 +113,13 @@ abbrev pub gray : ℕ → List ℕ
 gray v = v ∷ v ∷ v ∷ []
 
 -- the sum of a function that is at most the distance to each of the entries, of which the last is that of the levels a up to b
-pub part_more : (w x : ℕ → ℕ) (d : ℕ) (all : LevelSums) → AreSumsOf w x d all → (g : ℕ → ℕ) (a b : ℕ) → a ≤ b → b ≤ d
-    → ((v : ℕ) → g v ≤ distance (gray (mean_of all a b)) (gray v)) → total w x g b ≤ total w x g a + 3 * error_of all a b
-part_more w x d all h g a b p q less =
-    let m : ℕ = mean_of all a b in
-    let more : total w x g b + total w x (λ v. 3 * squared_difference (mean_of all a b) v) a
-        ≤ total w x g a + total w x (λ v. 3 * squared_difference (mean_of all a b) v) b =
-    grows w x g (λ v. 3 * squared_difference (mean_of all a b) v) a b p (λ i r s. omega (arith, less (x i))) in
-    let same : error_between w x a b + error_to w x (mean_of all a b) a ≡ error_to w x (mean_of all a b) b =
-    rw (mean_is w x d all h a b (omega arith) q) (made w x a b p) in
-    omega (
-      arith,
-      more,
-      times w x (squared_difference (mean_of all a b)) 3 a,
-      times w x (squared_difference (mean_of all a b)) 3 b,
-      same,
-      error_is w x d all h a b (omega arith) q,
-    )
+pub part_more : (w x : ℕ → ℕ) (d : ℕ) (all : LevelSums) → AreSumsOf w x d all → (g : ℕ → ℕ) (m a b : ℕ) → a ≤ b → b ≤ d → m ≡ mean_of all a b
+    → ((v : ℕ) → g v ≤ distance (gray m) (gray v)) → total w x g b ≤ total w x g a + 3 * error_of all a b
+part_more w x d all h g m a b p q m_is less =
+    let more : total w x g b + total w x (λ v. 3 * squared_difference m v) a ≤ total w x g a + total w x (λ v. 3 * squared_difference m v) b =
+    grows w x g (λ v. 3 * squared_difference m v) a b p (λ i r s. omega (arith, less (x i))) in
+    let same : error_between w x a b + error_to w x m a ≡ error_to w x m b = rw (m_is ∙ mean_is w x d all h a b (omega arith) q) (made w x a b p) in
+    omega (arith, more, times w x (squared_difference m) 3 a, times w x (squared_difference m) 3 b, same, error_is w x d all h a b (omega arith) q)
 
 -- numbers that are all 0
 pub zeros : (n b : ℕ) → get_or (replicate n 0) b 0 ≡ 0
@@ -201,7 +192,7 @@ row_here : (starts : List (List ℕ)) (k b : ℕ) (row : List ℕ) → k < lengt
 row_here starts k b row l = ap (λ r. get_or r b 0) (get_or-set_same starts k row [] l)
 
 -- no levels have no error
-errors_none : (c : ℕ → ℕ → ℕ) (starts : List (List ℕ)) (k : ℕ) → error_by c starts k 0 ≡ 0
+pub errors_none : (c : ℕ → ℕ → ℕ) (starts : List (List ℕ)) (k : ℕ) → error_by c starts k 0 ≡ 0
 errors_none c starts zero = refl
 errors_none c starts (suc k) = refl
 
@@ -244,6 +235,7 @@ module _ (w x : ℕ → ℕ) (d : ℕ) (all : LevelSums) (h : AreSumsOf w x d al
       → ((b : ℕ) → get_or more b 0 ≤ 1267650600228229401496703205376) → HasParts (error_of all) d all (set starts k row) more row (k + 1)
   parts_more starts errors last more row k some in' parts next small =
       let before : get_or errors 0 0 ≡ 0 = parts.same 0 (omega arith) ∙ errors_none (error_of all) starts k in
+      let next_is : k + 1 ≡ suc k = omega arith in
       let none : (a : ℕ) → a ≤ d → error_of all a a ≡ 0 = no_error w x d all h in
       let crossed : AreCrossed (error_of all) d = errors_crossed w x d all h in
       record {
@@ -252,14 +244,79 @@ module _ (w x : ℕ → ℕ) (d : ℕ) (all : LevelSums) (h : AreSumsOf w x d al
           | inr l ↦ let j_is : j ≡ k = omega arith in rw j_is (omega (arith, row_here starts k b row in', next.stands b q))
         ];
         first = λ b. let o : 0 ≢ k = (λ r. omega arith) in row_there starts k 0 b row o ∙ parts.first b;
-        same = λ b p. rw add-one (more_same (error_of all) d starts errors more row k in' next.none next.stands next.made parts.same b p);
+        same = λ b p. rw next_is (more_same (error_of all) d starts errors more row k in' next.none next.stands next.made parts.same b p);
         turns = next_turns (error_of all) d none crossed (λ b. get_or errors b 0) (λ b. get_or more b 0) (λ b. get_or row b 0) parts.turns before next;
         sooner = no_sooner (error_of all) d none crossed (λ b. get_or errors b 0) (λ b. get_or more b 0) (λ b. get_or row b 0) parts.turns before next;
         stands = next.stands;
         small = small;
-        least = λ v y of. rw add-one
+        least = λ v y of. rw next_is
             (next_least v y d of.levels.some of.levels.falls k (λ b. get_or errors b 0) (λ b. get_or more b 0) (λ b. get_or row b 0)
             (next_by v y d all of (λ b. get_or errors b 0) (λ b. get_or more b 0) (λ b. get_or row b 0) next)
             (no_worse (error_of all) d none crossed (λ b. get_or errors b 0) (λ b. get_or more b 0) (λ b. get_or row b 0) parts.turns before next)
             (parts.least v y of) some);
       }
+
+-- none is found yet
+pub none_found : (c : ℕ → ℕ → ℕ) (d : ℕ) (e : ℕ → ℕ) → AreFound c d e (replicate 257 0) (replicate 256 0) d 0
+none_found c d e = record {
+  long_errors = length-replicate 257 0;
+  long_starts = length-replicate 256 0;
+  none = zeros 257 0;
+  small = λ b. omega (arith, zeros 257 b);
+  stands = λ b l m. absurd (omega arith);
+  made = λ b l m. absurd (omega arith);
+  least = λ a b p l m. absurd (omega arith);
+  begun = λ r. refl;
+  latest = λ b l m. absurd (omega arith);
+}
+
+-- all parts are found
+pub all_parts : (c : ℕ → ℕ → ℕ) (d : ℕ) (all : LevelSums) (starts : List (List ℕ)) (errors last : List ℕ) (k room : ℕ) → k ≡ room → HasParts c d all starts errors last k
+    → (w x : ℕ → ℕ) → AreSumsOf w x d all → AreLeast w x d room (error_by c starts room)
+all_parts c d all starts errors last k room e h w x of n es b p q =
+    rw (← e)
+    (let least : get_or errors b 0 ≤ total w x (near n es) b = h.least w x of n es b p (omega (arith, e)) in
+    omega (arith, h.same b p, least))
+
+-- so many parts are written, those of the levels from end on: the sum of a function that is at most the distance to each of their entries is at most three times their error
+pub AreShown : (d : ℕ) (all : LevelSums) (starts : List (List ℕ)) (entries : List (List ℕ)) (i end : ℕ) → Type 0
+AreShown d all starts entries i end = (w x : ℕ → ℕ) → AreSumsOf w x d all → (g : ℕ → ℕ) → All (λ (e : List ℕ). (v : ℕ) → g v ≤ distance e (gray v)) entries
+    → (k : ℕ) → k + i ≡ length starts → total w x g d + 3 * error_by (error_of all) starts k end ≤ 3 * error_by (error_of all) starts (length starts) d + total w x g end
+
+pub none_shown : (d : ℕ) (all : LevelSums) (starts entries : List (List ℕ)) → AreShown d all starts entries 0 d
+none_shown d all starts entries w x of g each k e =
+    let whole : k ≡ length starts = omega arith in
+    rw whole (omega arith)
+
+-- what holds of all of some entries and of one more
+front : (P : List ℕ → Type 0) (xs ys : List (List ℕ)) → All P (xs ++ ys) → All P xs
+front P [] ys h = All-nil P
+front P (x ∷ xs) ys h = All-cons P x xs (All-head P x (xs ++ ys) h) (front P xs ys (All-tail P x (xs ++ ys) h))
+
+last_one : (P : List ℕ → Type 0) (xs : List (List ℕ)) (y : List ℕ) → All P (xs ++ y ∷ []) → P y
+last_one P [] y h = All-head P y [] h
+last_one P (x ∷ xs) y h = last_one P xs y (All-tail P x (xs ++ y ∷ []) h)
+
+-- one part more
+pub one_shown : (d : ℕ) (all : LevelSums) (starts old : List (List ℕ)) (m i j n at end : ℕ) → j ≡ suc i → n + suc i ≡ length starts → end ≡ suc at → end ≤ d
+    → start_at starts n at ≤ at → m ≡ mean_of all (start_at starts n at) end → AreShown d all starts old i end
+    → AreShown d all starts (old ++ gray m ∷ []) j (start_at starts n at)
+one_shown d all starts old m i j n at end j_is n_is end_is few stands m_is h w x of g each k e =
+    let k_is : k ≡ n = omega arith in
+    let mine : (v : ℕ) → g v ≤ distance (gray m) (gray v) = last_one (λ (p : List ℕ). (v : ℕ) → g v ≤ distance p (gray v)) old (gray m) each in
+    let part : total w x g end ≤ total w x g (start_at starts n at) + 3 * error_of all (start_at starts n at) end =
+    part_more w x d all of g m (start_at starts n at) end (omega (arith, stands)) few m_is mine in
+    let before : total w x g d + 3 * error_by (error_of all) starts (suc n) end ≤ 3 * error_by (error_of all) starts (length starts) d + total w x g end =
+    h w x of g (front (λ (p : List ℕ). (v : ℕ) → g v ≤ distance p (gray v)) old (gray m ∷ []) each) (suc n) (omega arith) in
+    let error : error_by (error_of all) starts (suc n) end ≡ error_by (error_of all) starts n (start_at starts n at) + error_of all (start_at starts n at) end =
+    rw end_is refl in
+    rw k_is (omega (arith, part, before, error))
+
+-- all levels are shown
+pub all_shown : (d : ℕ) (all : LevelSums) (starts entries : List (List ℕ)) (i end : ℕ) → end ≡ 0 → i ≤ length starts → AreShown d all starts entries i end
+    → (w x : ℕ → ℕ) → AreSumsOf w x d all → (g : ℕ → ℕ) → All (λ (e : List ℕ). (v : ℕ) → g v ≤ distance e (gray v)) entries
+    → total w x g d ≤ 3 * error_by (error_of all) starts (length starts) d
+all_shown d all starts entries i end none few h w x of g each =
+    let shown : total w x g d + 3 * error_by (error_of all) starts (length starts - i) end ≤ 3 * error_by (error_of all) starts (length starts) d + total w x g end =
+    h w x of g each (length starts - i) (omega arith) in
+    omega (arith, shown, ap (total w x g) none)

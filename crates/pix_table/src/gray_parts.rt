@@ -5,7 +5,7 @@
 //! one part less and the error of the last part. That place is no sooner than with one part less,
 //! and no later than with one level more (D. Knuth, Optimum binary search trees, 1971). So few
 //! places are tried.
-ghost use Rattle.std.specs.Prelude.{◌≡◌, ℕ, ◌<◌, ◌≤◌, length};
+ghost use Rattle.std.specs.Prelude.{◌⊎◌, ◌≡◌, ℕ, ◌<◌, ◌≤◌, length};
 ghost use Rattle.pix_table.specs.GrayLevels.{AreLeast, AreSumsOf, error_by, error_of, start_at};
 
 use crate::gray_levels::LevelSums;
@@ -46,6 +46,7 @@ impl Parts {
     /// Returns those of one part more.
     fn next(&self, sums: &LevelSums, len: usize) -> Parts
         requires levels { (w x : ℕ → ℕ) × AreSumsOf w x len sums.now }
+        requires before { slice_index self.now.errors 0 ≡ 0 }
         requires sooner { NoneSooner (error_of sums.now) len (slice_index self.now.errors)
             (slice_index self.now.starts) }
         requires stand { (b : ℕ) → b < len → slice_index self.now.starts b ≤ b }
@@ -62,7 +63,8 @@ impl Parts {
         for i in 0..len {
             let at = len - 1 - i;
             let last = latest.min(at);
-            let first = usize::from(self.starts[at]).min(last);
+            let earliest = usize::from(self.starts[at]);
+            let first = earliest.min(last);
             let best = self.best_start(sums, first, last, at + 1);
             parts.errors[at + 1] = best.error;
             parts.starts[at] = best.level as u8;
@@ -87,19 +89,18 @@ impl Parts {
             ≤ slice_index self.now.errors a + error_of sums.now a end }
     {
         let error = sums.error(first, end);
+        let whole = self.errors[first] + error;
         let mut best = Start {
             level: first,
-            error: self.errors[first] + error,
+            error: whole,
         };
         for level in first + 1..last + 1 {
             let part = sums.error(level, end);
             let found = self.errors[level] + part;
-            if found < best.error {
-                best = Start {
-                    level,
-                    error: found,
-                };
-            }
+            best = best.or(Start {
+                level,
+                error: found,
+            });
         }
         best
     }
@@ -110,6 +111,18 @@ impl Parts {
 struct Start {
     level: usize,
     error: u128,
+}
+
+impl Start {
+    /// Returns the one of two with the lesser error, or the first of equals.
+    fn or(self, other: Start) -> Start
+        ensures first { result.error ≤ self.error }
+        ensures second { result.error ≤ other.error }
+        ensures one { ((result.level ≡ self.level) × (result.error ≡ self.error))
+            ⊎ ((result.level ≡ other.level) × (result.error ≡ other.error)) }
+    {
+        if other.error < self.error { other } else { self }
+    }
 }
 
 /// Finds where the parts with the least error begin: `starts[k][b]` says where the last of `k + 1`

@@ -1,25 +1,33 @@
 //! A table of grays with the least squared error.
 ghost use Rattle.std.specs.Prelude.{◌≡◌, ℕ, ◌+◌, ◌*◌, ◌<◌, ◌≤◌, All, List, [], ◌∷◌, MatchBool, length, map, take, true, false};
-ghost use Rattle.pix_table.specs.GrayLevels.{AreSumsOf, error_of, error_by, start_at};
-ghost use Rattle.pix_table.specs.Grays.{AreGrays, IsLeastTable};
+ghost use Rattle.pix_table.specs.GrayLevels.{AreLevelsOf, AreSumsOf, error_by, error_of, start_at};
+ghost use Rattle.pix_table.specs.Grays.{AreGrays, IsGray, IsLeastTable};
 ghost use Rattle.pix_table.specs.Nearest.{distance, numbers};
 ghost use Rattle.pix_table.specs.Totals.{total};
+ghost use Rattle.pix_table.specs.declared.color.Color.{Color};
 
 use crate::color::Color;
 use crate::gray_levels::{LevelSums, Levels};
 use crate::gray_parts::find_starts;
 
 /// Returns whether all of some colors are grays.
-pub fn are_grays(colors: &[Color]) -> bool
+pub(crate) fn are_grays(colors: &[Color]) -> bool
     ensures { MatchBool result (AreGrays (map numbers colors.now))
         (AreGrays (map numbers colors.now) → ⊥) }
 {
-    for clr in colors {
-        if clr.green != clr.red || clr.blue != clr.red {
+    for i in 0..colors.len() {
+        if !is_gray(colors[i]) {
             return false;
         }
     }
     true
+}
+
+/// Returns whether a color is a gray.
+fn is_gray(clr: Color) -> bool
+    ensures { MatchBool result (IsGray (numbers clr)) (IsGray (numbers clr) → ⊥) }
+{
+    clr.green == clr.red && clr.blue == clr.red
 }
 
 /// Writes a table of some grays into the first of the entries, from the darkest to the brightest,
@@ -28,7 +36,7 @@ pub fn are_grays(colors: &[Color]) -> bool
 /// Condition: there is a color, and there are 1 to 256 entries.
 // Out of line, so that its stack and that of the cut do not add up.
 #[inline(never)]
-pub fn least_table(colors: &[Color], entries: &mut [Color]) -> usize
+pub(crate) fn least_table(colors: &[Color], entries: &mut [Color]) -> usize
     requires some { 0 < length colors.now }
     requires grays { AreGrays (map numbers colors.now) }
     requires room { 0 < length entries.old }
@@ -41,8 +49,29 @@ pub fn least_table(colors: &[Color], entries: &mut [Color]) -> usize
     let sums = LevelSums::of(&levels);
     let mut starts = [[0; 256]; 256];
     let room = entries.len();
-    find_starts(&sums, levels.len, &mut starts[..room]);
-    write_parts(&sums, levels.len, &starts[..room], entries)
+    least_parts(&sums, levels.len, &mut starts[..room], entries)
+}
+
+/// Finds the parts with the least error, and writes their means into the first of the entries.
+/// Returns their number.
+fn least_parts(
+    sums: &LevelSums,
+    len: usize,
+    starts: &mut [[u8; 256]],
+    entries: &mut [Color],
+) -> usize
+    requires room { length starts.old ≡ length entries.old }
+    requires some { 0 < length entries.old }
+    requires levels { 0 < len }
+    requires sums { (w x : ℕ → ℕ) × AreSumsOf w x len sums.now }
+    ensures within { result ≤ length entries.new }
+    ensures table { (w x : ℕ → ℕ) → AreSumsOf w x len sums.now → (colors : List Color)
+        → AreGrays (map numbers colors) → AreLevelsOf w x len colors
+        → IsLeastTable (length entries.old) (map numbers colors)
+        (map numbers (take result entries.new)) }
+{
+    find_starts(sums, len, starts);
+    write_parts(sums, len, starts, entries)
 }
 
 /// Writes the mean of each part into the first of the entries, the last part first, and returns
@@ -56,7 +85,6 @@ fn write_parts(
     requires room { length starts.now ≡ length entries.old }
     requires some { 0 < length entries.old }
     requires levels { 0 < len }
-    requires few_levels { len ≤ 256 }
     requires sums { (w x : ℕ → ℕ) × AreSumsOf w x len sums.now }
     requires stand { (k b : ℕ) → k < length starts.now → b < len → start_at starts.now k b ≤ b }
     requires first { (b : ℕ) → start_at starts.now 0 b ≡ 0 }

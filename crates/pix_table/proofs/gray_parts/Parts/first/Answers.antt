@@ -1,0 +1,33 @@
+-- Of `first`: that the levels up to `end` are some, and that the invariant of its loop holds at first and after each turn.
+use Rattle.std.proofs.Common.{◌≡◌, ℕ, ◌+◌, ◌<◌, ◌≤◌, get_or, arith, sym, ◌∙◌}
+use Rattle.pix_table.specs.GrayLevels.{error_of}
+use Rattle.pix_table.proofs.LevelLemmas.{between, error_small, no_error}
+use Rattle.pix_table.proofs.PartLemmas.{made_more, still_small, zeros}
+use Rattle.pix_table.proofs.gray_parts.Parts.first.Goals as goal
+
+pub loop-end-init : goal.loop-end-init
+loop-end-init c =
+    let r = c.requires in
+    record {
+      starts = zeros 256;
+      made = λ b l. let none : b ≡ 0 = omega arith in rw none (zeros 257 0 ∙ sym (no_error r.0 r.1 c.args.len c.args.sums.now r.2 0 (omega arith)));
+      small = λ b. omega (arith, zeros 257 b);
+    }
+
+pub error-error-requires : goal.error-error-requires
+error-error-requires c =
+    let r = c.requires in
+    between r.0 r.1 c.args.len c.args.sums.now r.2 0 c.loop-end.end (omega arith) (omega arith)
+
+pub loop-end-preserved : goal.loop-end-preserved
+loop-end-preserved c =
+    let r = c.requires in
+    let h = c.loop-end.invariant in
+    let small = error_small r.0 r.1 c.args.len c.args.sums.now r.2 0 c.loop-end.end (omega arith) (omega arith) in
+    record {
+      starts = h.starts;
+      made = made_more (error_of c.args.sums.now 0) c.loop-end.parts.errors c.loop-end.end c.error-error.result (omega (arith, c.loop-end.parts.long_errors, r.2.levels.few))
+          c.error-error.ensures h.made;
+      small = still_small c.loop-end.parts.errors c.loop-end.end c.error-error.result 1267650600228229401496703205376
+          (omega (arith, c.loop-end.parts.long_errors, r.2.levels.few)) (omega (arith, c.error-error.ensures, small)) h.small;
+    }
