@@ -121,27 +121,3 @@ fn start_of(starts: &[[u8; 256]], k: usize, b: usize) -> usize
 {
     usize::from(starts[k][b])
 }
-
-#[cfg(test)]
-mod tests {
-    use super::*;
-
-    fn gray(level: u8) -> Color {
-        Color {
-            red: level,
-            green: level,
-            blue: level,
-        }
-    }
-
-    #[test]
-    fn three_levels_in_two(rt: HostRuntime) {
-        let colors = [gray(0), gray(10), gray(12), gray(10)];
-        let mut entries = [gray(0); 2];
-        assert!(rt; are_grays(&colors));
-        let count = least_table(&colors, &mut entries);
-        assert_eq!(rt; count, 2);
-        assert_eq!(rt; entries[0].red, 0);
-        assert_eq!(rt; entries[1].red, 11);
-    }
-}
