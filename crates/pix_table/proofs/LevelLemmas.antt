@@ -1,7 +1,8 @@
 -- The levels of gray of some colors, one after the other, and bounds of their sums.
-use Rattle.std.proofs.Common.{◌≡◌, ℕ, zero, suc, ◌+◌, ◌*◌, ◌-◌, ◌/◌, ◌^◌, ◌<◌, ◌≤◌, ◌≢◌, Bool, true, false, cond, List, [], ◌∷◌, length, set, get_or, nat_eq, sum_by, count_by, All, refl, arith, ap, sym, ◌∙◌, inl, inr, eq-eqb, ne_eqb, length-set, get_or-set_other, get_or-set_same}
+use Rattle.std.proofs.Common.{◌≡◌, ℕ, zero, suc, ◌+◌, ◌*◌, ◌-◌, ◌/◌, ◌^◌, ◌<◌, ◌≤◌, ◌≢◌, Bool, true, false, cond, List, [], ◌∷◌, length, set, get_or, replicate, nat_eq, sum_by, count_by, All, refl, arith, ap, sym, ◌∙◌, inl, inr, eq-eqb, ne_eqb, length-set, get_or-set_other, get_or-set_same}
 use Rattle.std.proofs.lemmas.Bool.{cases_lt, cases_eq}
 use Rattle.std.proofs.lemmas.Nat.{mul-le}
+use Rattle.std.proofs.lemmas.List.{get_or-replicate, length-replicate}
 use Rattle.std.proofs.lemmas.List.Sums.{sum_by-cons}
 use Rattle.std.proofs.lemmas.List.Elements.{All-head, All-tail}
 use Rattle.std.proofs.Math.Nat.{mul-le-mul_left}
@@ -198,16 +199,25 @@ levels_listed n every levels colors e each bytes fit h = record {
 }
 
 -- the sums up to a level are those of the levels
-pub record AreSummed (w x : ℕ → ℕ) (all : LevelSums) (i : ℕ) : Type 0 where
-  pub counts : (k : ℕ) → k ≤ i → get_or all.counts k 0 ≡ total w x (λ v. 1) k
-  pub sums : (k : ℕ) → k ≤ i → get_or all.sums k 0 ≡ total w x (λ v. v) k
-  pub squares : (k : ℕ) → k ≤ i → get_or all.squares k 0 ≡ total w x (λ v. v * v) k
+pub record AreSummed (w x : ℕ → ℕ) (count_list sum_list square_list : List ℕ) (i : ℕ) : Type 0 where
+  pub long_counts : length count_list ≡ 257
+  pub long_sums : length sum_list ≡ 257
+  pub long_squares : length square_list ≡ 257
+  pub counts : (k : ℕ) → k ≤ i → get_or count_list k 0 ≡ total w x (λ v. 1) k
+  pub sums : (k : ℕ) → k ≤ i → get_or sum_list k 0 ≡ total w x (λ v. v) k
+  pub squares : (k : ℕ) → k ≤ i → get_or square_list k 0 ≡ total w x (λ v. v * v) k
 
-pub summed_none : (w x : ℕ → ℕ) (all : LevelSums) → get_or all.counts 0 0 ≡ 0 → get_or all.sums 0 0 ≡ 0 → get_or all.squares 0 0 ≡ 0 → AreSummed w x all 0
-summed_none w x all counts sums squares = record {
-  counts = λ k l. let first : k ≡ 0 = omega arith in rw first counts;
-  sums = λ k l. let first : k ≡ 0 = omega arith in rw first sums;
-  squares = λ k l. let first : k ≡ 0 = omega arith in rw first squares;
+first_none : (w x f : ℕ → ℕ) (k : ℕ) → k ≤ 0 → get_or {A = ℕ} (replicate {A = ℕ} 257 0) k 0 ≡ total w x f k
+first_none w x f k l = let first : k ≡ 0 = omega arith in rw first (get_or-replicate {A = ℕ} 257 0 0 0 (omega arith))
+
+pub summed_none : (w x : ℕ → ℕ) → AreSummed w x (replicate {A = ℕ} 257 0) (replicate {A = ℕ} 257 0) (replicate {A = ℕ} 257 0) 0
+summed_none w x = record {
+  long_counts = length-replicate {A = ℕ} 257 0;
+  long_sums = length-replicate {A = ℕ} 257 0;
+  long_squares = length-replicate {A = ℕ} 257 0;
+  counts = first_none w x (λ v. 1);
+  sums = first_none w x (λ v. v);
+  squares = first_none w x (λ v. v * v);
 }
 
 sum_more : (w x f : ℕ → ℕ) (old new : List ℕ) (i one : ℕ) → suc i < length old → new ≡ set old (suc i) (get_or old i 0 + one) → one ≡ w i * f (x i)
@@ -222,20 +232,29 @@ sum_more w x f old new i one in' e is h k l = elim (cases_lt k (suc i)) [
       (ap (λ xs. get_or xs (suc i) 0) e ∙ get_or-set_same old (suc i) (get_or old i 0 + one) 0 in' ∙ added _ _ _ _ (h i (omega arith)) is)
 ]
 
-pub one_summed : (w x : ℕ → ℕ) (old new : LevelSums) (i j n s q : ℕ) → j ≡ suc i → i < 256 → n ≡ w i → s ≡ w i * x i → q ≡ w i * (x i * x i)
-    → new.counts ≡ set old.counts j (get_or old.counts i 0 + n) → new.sums ≡ set old.sums j (get_or old.sums i 0 + s)
-    → new.squares ≡ set old.squares j (get_or old.squares i 0 + q) → AreSummed w x old i → AreSummed w x new j
-one_summed w x old new i j n s q j_is in' n_is s_is q_is counts sums squares h = record {
-  counts = λ k l. sum_more w x (λ v. 1) old.counts new.counts i n (omega (arith, old.long_counts))
-      (counts ∙ ap (λ m. set old.counts m (get_or old.counts i 0 + n)) j_is) (omega (arith, n_is)) h.counts k (omega arith);
-  sums = λ k l. sum_more w x (λ v. v) old.sums new.sums i s (omega (arith, old.long_sums))
-      (sums ∙ ap (λ m. set old.sums m (get_or old.sums i 0 + s)) j_is) s_is h.sums k (omega arith);
-  squares = λ k l. sum_more w x (λ v. v * v) old.squares new.squares i q (omega (arith, old.long_squares))
-      (squares ∙ ap (λ m. set old.squares m (get_or old.squares i 0 + q)) j_is) q_is h.squares k (omega arith);
+pub one_summed : (w x : ℕ → ℕ) (count_list sum_list square_list : List ℕ) (i j n s q : ℕ) → j ≡ suc i → i < 256 → n ≡ w i → s ≡ w i * x i → q ≡ w i * (x i * x i)
+    → AreSummed w x count_list sum_list square_list i
+    → AreSummed w x (set count_list j (get_or count_list i 0 + n)) (set sum_list j (get_or sum_list i 0 + s)) (set square_list j (get_or square_list i 0 + q)) j
+one_summed w x count_list sum_list square_list i j n s q j_is in' n_is s_is q_is h = record {
+  long_counts = length-set count_list j (get_or count_list i 0 + n) ∙ h.long_counts;
+  long_sums = length-set sum_list j (get_or sum_list i 0 + s) ∙ h.long_sums;
+  long_squares = length-set square_list j (get_or square_list i 0 + q) ∙ h.long_squares;
+  counts = λ k l. sum_more w x (λ v. 1) count_list (set count_list j (get_or count_list i 0 + n)) i n (omega (arith, h.long_counts))
+      (ap (λ m. set count_list m (get_or count_list i 0 + n)) j_is) (omega (arith, n_is)) h.counts k (omega arith);
+  sums = λ k l. sum_more w x (λ v. v) sum_list (set sum_list j (get_or sum_list i 0 + s)) i s (omega (arith, h.long_sums))
+      (ap (λ m. set sum_list m (get_or sum_list i 0 + s)) j_is) s_is h.sums k (omega arith);
+  squares = λ k l. sum_more w x (λ v. v * v) square_list (set square_list j (get_or square_list i 0 + q)) i q (omega (arith, h.long_squares))
+      (ap (λ m. set square_list m (get_or square_list i 0 + q)) j_is) q_is h.squares k (omega arith);
 }
 
-pub all_summed : (w x : ℕ → ℕ) (d : ℕ) (all : LevelSums) → AreLevels w x d → AreSummed w x all d → AreSumsOf w x d all
-all_summed w x d all levels h = record { levels = levels; counts = h.counts; sums = h.sums; squares = h.squares }
+pub all_summed : (w x : ℕ → ℕ) (d i : ℕ) (count_list sum_list square_list : List ℕ) (all : LevelSums) → d ≤ i → all.counts ≡ count_list → all.sums ≡ sum_list
+    → all.squares ≡ square_list → AreLevels w x d → AreSummed w x count_list sum_list square_list i → AreSumsOf w x d all
+all_summed w x d i count_list sum_list square_list all whole counts sums squares levels h = record {
+  levels = levels;
+  counts = λ k l. ap (λ xs. get_or xs k 0) counts ∙ h.counts k (omega arith);
+  sums = λ k l. ap (λ xs. get_or xs k 0) sums ∙ h.sums k (omega arith);
+  squares = λ k l. ap (λ xs. get_or xs k 0) squares ∙ h.squares k (omega arith);
+}
 
 -- the sums with one level more fit
 pub record NextFits (w x : ℕ → ℕ) (i : ℕ) : Type 0 where

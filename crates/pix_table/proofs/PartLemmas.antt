@@ -122,10 +122,10 @@ part_more w x d all h g m a b p q m_is less =
     omega (arith, more, times w x (squared_difference m) 3 a, times w x (squared_difference m) 3 b, same, error_is w x d all h a b (omega arith) q)
 
 -- numbers that are all 0
-pub zeros : (n b : ℕ) → get_or (replicate n 0) b 0 ≡ 0
+pub zeros : (n b : ℕ) → get_or {A = ℕ} (replicate {A = ℕ} n 0) b 0 ≡ 0
 zeros n b = elim (cases_lt b n) [
-  | inl l ↦ get_or-replicate n b 0 0 l
-  | inr l ↦ get_or_past (replicate n 0) b 0 (omega (arith, length-replicate n 0))
+  | inl l ↦ get_or-replicate {A = ℕ} n b 0 0 l
+  | inr l ↦ get_or_past {X = ℕ} (replicate {A = ℕ} n 0) b 0 (omega (arith, length-replicate {A = ℕ} n 0))
 ]
 
 -- one number more that is written in order
@@ -257,10 +257,10 @@ module _ (w x : ℕ → ℕ) (d : ℕ) (all : LevelSums) (h : AreSumsOf w x d al
       }
 
 -- none is found yet
-pub none_found : (c : ℕ → ℕ → ℕ) (d : ℕ) (e : ℕ → ℕ) → AreFound c d e (replicate 257 0) (replicate 256 0) d 0
+pub none_found : (c : ℕ → ℕ → ℕ) (d : ℕ) (e : ℕ → ℕ) → AreFound c d e (replicate {A = ℕ} 257 0) (replicate {A = ℕ} 256 0) d 0
 none_found c d e = record {
-  long_errors = length-replicate 257 0;
-  long_starts = length-replicate 256 0;
+  long_errors = length-replicate {A = ℕ} 257 0;
+  long_starts = length-replicate {A = ℕ} 256 0;
   none = zeros 257 0;
   small = λ b. omega (arith, zeros 257 b);
   stands = λ b l m. absurd (omega arith);

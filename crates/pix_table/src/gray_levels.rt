@@ -101,18 +101,24 @@ impl LevelSums {
         requires { AreLevels (weights levels.now) (value_at levels.now) levels.now.len }
         ensures { AreSumsOf (weights levels.now) (value_at levels.now) levels.now.len result }
     {
-        let mut sums = LevelSums {
-            counts: [0; 257],
-            sums: [0; 257],
-            squares: [0; 257],
-        };
+        let mut counts = [0; 257];
+        let mut sums = [0; 257];
+        let mut squares = [0; 257];
         for i in 0..levels.len {
-            let (value, count) = (u128::from(levels.values[i]), levels.counts[i] as u128);
-            sums.counts[i + 1] = sums.counts[i] + levels.counts[i];
-            sums.sums[i + 1] = sums.sums[i] + count * value;
-            sums.squares[i + 1] = sums.squares[i] + count * (value * value);
+            let value = u128::from(levels.values[i]);
+            let count = levels.counts[i] as u128;
+            let more = counts[i] + levels.counts[i];
+            let sum = sums[i] + count * value;
+            let square = squares[i] + count * (value * value);
+            counts[i + 1] = more;
+            sums[i + 1] = sum;
+            squares[i + 1] = square;
         }
-        sums
+        LevelSums {
+            counts,
+            sums,
+            squares,
+        }
     }
 
     /// Returns the mean of the levels from `start` up to `end`, to the nearest whole number, ties

@@ -32,15 +32,15 @@ impl Parts {
         ensures starts { (b : ℕ) → slice_index result.starts b ≡ 0 }
         ensures small { (b : ℕ) → slice_index result.errors b ≤ 2 ^ 100 }
     {
-        let mut parts = Parts {
-            errors: [0; 257],
-            starts: [0; 256],
-        };
+        let mut errors = [0; 257];
         for end in 1..len + 1 {
             let error = sums.error(0, end);
-            parts.errors[end] = error;
+            errors[end] = error;
         }
-        parts
+        Parts {
+            errors,
+            starts: [0; 256],
+        }
     }
 
     /// Returns those of one part more.
@@ -55,10 +55,8 @@ impl Parts {
             (slice_index result.errors) (slice_index result.starts) }
         ensures small { (b : ℕ) → slice_index result.errors b ≤ 2 ^ 100 }
     {
-        let mut parts = Parts {
-            errors: [0; 257],
-            starts: [0; 256],
-        };
+        let mut errors = [0; 257];
+        let mut starts = [0; 256];
         let mut latest = len;
         for i in 0..len {
             let at = len - 1 - i;
@@ -66,11 +64,11 @@ impl Parts {
             let earliest = usize::from(self.starts[at]);
             let first = earliest.min(last);
             let best = self.best_start(sums, first, last, at + 1);
-            parts.errors[at + 1] = best.error;
-            parts.starts[at] = best.level as u8;
+            errors[at + 1] = best.error;
+            starts[at] = best.level as u8;
             latest = best.level;
         }
-        parts
+        Parts { errors, starts }
     }
 
     /// Returns where one part more that ends at `end` begins best, of the places from `first` to

@@ -29,8 +29,8 @@ counted xs i level counts in' red small long each v h = elim (cases_eq v level) 
 
 pub loop-i-init : goal.loop-i-init
 loop-i-init c = record {
-  long = length-replicate 256 0;
-  each = λ v h. get_or-replicate 256 v 0 0 h;
+  long = length-replicate {A = ℕ} 256 0;
+  each = λ v h. get_or-replicate {A = ℕ} 256 v 0 0 h;
   bytes = All-nil (λ (color : Color). color.red < 256);
 }
 

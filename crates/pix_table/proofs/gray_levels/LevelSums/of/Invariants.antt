@@ -5,4 +5,4 @@ use Rattle.pix_table.proofs.gray_levels.LevelSums.of.Given as goal
 
 -- the sums up to i are those of the levels
 abbrev pub invariant-loop-i : goal.invariant-loop-i
-invariant-loop-i l = AreSummed (weights l.levels) (values l.levels) l.sums l.i
+invariant-loop-i l = AreSummed (weights l.levels) (values l.levels) l.counts l.sums l.squares l.i

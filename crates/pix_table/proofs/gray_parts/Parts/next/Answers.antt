@@ -25,14 +25,14 @@ loop-i-preserved c =
     let all = c.args.sums.now in
     let e = c.best_start-best.ensures in
     next_found (error_of all) d (no_error r.0 r.1 d all r.2) (errors_crossed r.0 r.1 d all r.2) (λ b. get_or c.args.self.now.errors b 0)
-    (λ b. get_or c.args.self.now.starts b 0) c.requires.sooner c.requires.stand c.loop-i.parts.errors c.loop-i.parts.starts c.loop-i.latest c.loop-i.i (c.loop-i.i + 1)
+    (λ b. get_or c.args.self.now.starts b 0) c.requires.sooner c.requires.stand c.loop-i.errors c.loop-i.starts c.loop-i.latest c.loop-i.i (c.loop-i.i + 1)
     (d - 1 - c.loop-i.i) (d - 1 - c.loop-i.i + 1) c.min-last.result c.min-first.result c.best_start-best.result.level c.best_start-best.result.error
     (omega (arith, r.2.levels.few)) (omega arith) (omega arith) (omega arith) c.loop-i.invariant c.min-last.ensures (c.min-first.ensures ∙ ap (λ k. min k c.min-last.result) c.from-earliest.ensures) e.first e.last e.made e.least
     c.requires.before (λ b l. error_small r.0 r.1 d all r.2 0 b (omega arith) l)
 
 pub returns-clause-next : goal.returns-clause-next
 returns-clause-next c =
-    all_found (error_of c.args.sums.now) c.args.len (λ b. get_or c.args.self.now.errors b 0) c.loop-i.parts.errors c.loop-i.parts.starts c.loop-i.latest c.loop-i.i
+    all_found (error_of c.args.sums.now) c.args.len (λ b. get_or c.args.self.now.errors b 0) c.loop-i.errors c.loop-i.starts c.loop-i.latest c.loop-i.i
     (omega arith) c.loop-i.invariant
 
 pub returns-clause-small : goal.returns-clause-small

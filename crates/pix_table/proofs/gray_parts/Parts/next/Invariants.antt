@@ -6,4 +6,4 @@ use Rattle.pix_table.proofs.gray_parts.Parts.next.Given as goal
 
 -- the errors of the i greatest numbers of levels are found
 abbrev pub invariant-loop-i : goal.invariant-loop-i
-invariant-loop-i l = AreFound (error_of l.sums) l.len (λ b. get_or l.self.errors b 0) l.parts.errors l.parts.starts l.latest l.i
+invariant-loop-i l = AreFound (error_of l.sums) l.len (λ b. get_or l.self.errors b 0) l.errors l.starts l.latest l.i
