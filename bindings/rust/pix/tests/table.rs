@@ -174,12 +174,15 @@ fn diffused_errors() {
     let table = ColorTable::new(&entries).unwrap();
     let mut work = vec![gray(0); diffuse_indexed_work(4).unwrap()];
     let mut indices = [9; 4];
-    // By hand: 100 is black, and no error that is handed on is above 24, so that all four stay black.
-    table
-        .diffuse_indexed(&[gray(100); 4], 4, &mut work, &mut indices)
+    // By hand: in black and a gray of 48 no error that is handed on is above 24. 255 is 48, so that 10 is 18 and black.
+    let dark = [gray(0), gray(48)];
+    let mut pair = [9; 2];
+    ColorTable::new(&dark)
+        .unwrap()
+        .diffuse_indexed(&[gray(255), gray(10)], 2, &mut work[..8], &mut pair)
         .unwrap();
-    assert_eq!(indices, [0; 4]);
-    // 120 is black and hands on 7 sixteenths of 24, of which 12 of 16 are passed on: 120 and 7.875 are 128, which is white; and
+    assert_eq!(pair, [1, 0]);
+    // 120 is black and hands on 7 sixteenths of it, of which 12 of 16 are passed on: 120 and 39.375 are 159, which is white; and
     // so on.
     table
         .diffuse_indexed(&[gray(120); 4], 4, &mut work, &mut indices)
@@ -219,9 +222,9 @@ fn errors_diffused_in_a_way() {
     let table = ColorTable::new(&entries).unwrap();
     let mut work = vec![gray(0); 8];
     let mut indices = [9; 4];
-    let shades = [255, 255, 50, 255].map(|alpha| Srgba8::new(120, 120, 120, alpha));
+    let shades = [255, 255, 50, 255].map(|alpha| Srgba8::new(100, 100, 100, alpha));
     // By hand: two rows of two pixels, and the third of the four set apart by its alpha. Its row goes from right to left where
-    // it is serpentine: the last pixel gets 24 - 120 sixteenths before it. With 8 of 16 it gets 24 + 120 sixteenths, halved.
+    // it is serpentine: the last pixel gets 100 - 555 sixteenths before it. With 8 of 16 it gets 100 + 610 sixteenths, halved.
     for (strength, serpentine, wanted) in [
         (16, false, [0, 1, 0, 0]),
         (16, true, [0, 1, 1, 0]),
@@ -233,7 +236,7 @@ fn errors_diffused_in_a_way() {
             serpentine,
         };
         table
-            .diffuse_indexed_by(&[gray(120); 4], 2, how, &mut work, &mut indices)
+            .diffuse_indexed_by(&[gray(100); 4], 2, how, &mut work, &mut indices)
             .unwrap();
         assert_eq!(indices, wanted);
         let (alpha, transparent_index) = (51, 7);
