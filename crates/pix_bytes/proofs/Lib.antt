@@ -1,5 +1,5 @@
 -- The files of lemmas. Answers, invariants and proofs of a function are found by its path.
-pub mod Fours
+pub mod FourChannels
 pub mod Steps
 pub mod ModelsByName
 pub mod Parts

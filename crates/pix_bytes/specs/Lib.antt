@@ -1,5 +1,5 @@
 pub mod Formats
-pub mod Four
+pub mod FourChannels
 pub mod Models
 pub mod BitmapFormats
 pub mod Rows

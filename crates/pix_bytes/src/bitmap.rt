@@ -11,13 +11,13 @@ use crate::buffer::convert_usual;
 
 mod eights;
 pub(crate) mod format;
-mod four;
-mod fours;
+mod four_channels;
 mod grays;
 mod levels;
 mod model;
 mod pixel_conversion;
 mod recoloring;
+mod rgba_light;
 pub(crate) mod row_conversion;
 mod rows;
 mod sample;

@@ -4,7 +4,7 @@ use Rattle.std.proofs.lemmas.Nat.{mul-le, div-mul-add}
 use Rattle.std.proofs.Math.Nat.{div-add-mod', mod-lt}
 use Rattle.std.proofs.lemmas.Bool.{and_parts, eqb-true}
 use Rattle.pix_chan.specs.Product.{channel_quotient}
-use Rattle.pix_chan.specs.declared.quotients.TheConstants.{RECIPROCALS}
+use Rattle.pix_chan.specs.declared.quotients16.TheConstants.{RECIPROCALS}
 
 -- a product with a reciprocal, by its parts: the dividend is q (s + t) + r, what the reciprocal
 -- divides is k (s + t) + s

@@ -1,7 +1,7 @@
 -- Four pixels of four channels of sixteen bits divided by their alphas, on lanes. No public clause
 -- cites this file.
 use Rattle.std.specs.Prelude.{◌≡◌, ℕ, ◌+◌, ◌*◌, ◌/◌, ◌%◌, ◌^◌, ◌<◌, max, List, [], ◌∷◌, slice_index_or}
-use Rattle.pix_chan.specs.declared.quotients.TheConstants.{RECIPROCALS}
+use Rattle.pix_chan.specs.declared.quotients16.TheConstants.{RECIPROCALS}
 
 -- four numbers, each once for each channel of its pixel
 abbrev pub for_each_channel : ℕ → ℕ → ℕ → ℕ → List ℕ

@@ -186,12 +186,12 @@ pub trait Channel: Copy
 
     /// Returns one minus each of sixteen channels.
     #[doc(hidden)]
-    fn less16(plane: [Self; 16]) -> [Self; 16]
+    fn complement16(plane: [Self; 16]) -> [Self; 16]
         ensures { map number result ≡ map (λ x. max - x) (map number plane) };
 
     /// Returns one minus each of thirty-two channels.
     #[doc(hidden)]
-    fn less32(plane: [Self; 32]) -> [Self; 32]
+    fn complement32(plane: [Self; 32]) -> [Self; 32]
         ensures { map number result ≡ map (λ x. max - x) (map number plane) };
 
     /// Returns, for four pixels of four channels, at each index the last channel of its pixel.

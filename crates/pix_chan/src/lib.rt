@@ -3,6 +3,6 @@
 
 pub mod chan;
 #[doc(hidden)]
-pub mod quotients;
+pub mod quotients16;
 #[doc(hidden)]
-pub mod reciprocals;
+pub mod quotients8;

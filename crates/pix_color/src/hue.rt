@@ -5,7 +5,7 @@ ghost use Rattle.pix_color.specs.Hexcone.{red_share, green_share, blue_share};
 ghost use Rattle.pix_color.specs.Hexcone.{hue_at, hue_after, hue_of, chroma_of, value_of};
 
 use crate::numbers::{complement, divided_short, exact, max, nearest, number, product, sum, units};
-use pix_chan::reciprocals::quotient_by_byte;
+use pix_chan::quotients8::quotient_by_byte;
 use pix_el::chan::Channel;
 
 /// A sixth of the hexcone, the circle of hues (A. R. Smith, *Color Gamut Transform Pairs*, SIGGRAPH

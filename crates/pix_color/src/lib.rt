@@ -1,4 +1,4 @@
-//! Eight color models, beside those of red, green and blue and of mattes, and the hexcone.
+//! The color models beside those of red, green and blue and of mattes, and the hexcone.
 //!
 //! Each model is converted to red, green and blue and back in whole numbers, rounded to the
 //! nearest, in the type of the pixel's channels. A color of `Bgr` or `Cmy` comes back from red,

@@ -35,10 +35,11 @@ fn parts(weight: i64, n: u32) -> (u32, u32)
     }
 }
 
-/// Does what [`weighted_sum`] does, for channels of eight bits. Sums fit in 32 bits there, and LLVM
-/// makes four at once.
+/// Returns the channel of eight bits nearest to the sum of three channels and of the maximum, each
+/// times its weight, over `whole`, ties up. Sums fit in 32 bits here, and LLVM makes four at once.
 ///
-/// Condition: the maximum is 255.
+/// Condition: the maximum is 255, each weight is at most 2^21, either way, and `whole` is positive
+/// and at most 2^20.
 #[inline(always)]
 fn short_sum<C: Channel>(
     first: (i64, C),
@@ -66,7 +67,8 @@ fn short_sum<C: Channel>(
     exact(u64::from(ratio.min(255)))
 }
 
-/// Does what [`weighted_sum`] does, for channels of any width.
+/// Returns the channel nearest to the sum of three channels and of the maximum, each times its
+/// weight, over `whole`, ties up. Sums have 64 bits, so channels may have any width.
 ///
 /// Condition: each weight is at most 2^21, either way, and `whole` is positive and at most 2^20.
 #[inline(always)]

@@ -5,7 +5,7 @@ ghost use Rattle.pix_chan.specs.Product.{channel_product, channel_quotient};
 ghost use Rattle.pix_chan.specs.Nearest.{nearest};
 ghost use Rattle.pix_color.specs.Hsl.{half};
 
-use pix_chan::reciprocals::quotient_by_byte;
+use pix_chan::quotients8::quotient_by_byte;
 use pix_el::chan::Channel;
 
 /// Returns the number of a channel, with room for sums and products.

@@ -5,7 +5,7 @@ use Rattle.pix_ops.specs.declared.ops.Op.{Op}
 use Rattle.pix_chan.specs.Product.{channel_product, fineness, IsProduct}
 use Rattle.pix_chan.specs.Number.{saturating_sum}
 use Rattle.pix_chan.specs.Runs.{over}
-use Rattle.pix_ops.specs.Operators.{Coefficient, Zero, One, Alpha, OneMinusAlpha, row}
+use Rattle.pix_ops.specs.Operators.{Coefficient, Zero, One, OtherAlpha, OneMinusAlpha, row}
 use Rattle.pix_ops.specs.Composite.{term, channel_composite}
 use Rattle.pix_ops.specs.Hue.{hue_composite, hue_weight, hue_after, hue_steps}
 use Rattle.pix_ops.proofs.Transparent.{over_hue}
@@ -32,27 +32,27 @@ module _ (max : ℕ) (laws : IsProduct fineness max (channel_product max)) where
   pub zero_by : (c : Coefficient) → term max c max 0 ≡ 0 → term max c max max ≡ 0 → c ≡ Zero
   zero_by Zero h k = refl
   zero_by One h k = absurd (omega (arith, laws.positive))
-  zero_by Alpha h k = absurd (omega (arith, laws.positive, laws.identity max))
+  zero_by OtherAlpha h k = absurd (omega (arith, laws.positive, laws.identity max))
   zero_by OneMinusAlpha h k = absurd (omega (arith, laws.positive, whole))
 
   pub one_by : (c : Coefficient) → term max c max 0 ≡ max → term max c max max ≡ max → c ≡ One
   one_by Zero h k = absurd (omega (arith, laws.positive))
   one_by One h k = refl
-  one_by Alpha h k = absurd (omega (arith, laws.positive, of_none))
+  one_by OtherAlpha h k = absurd (omega (arith, laws.positive, of_none))
   one_by OneMinusAlpha h k = absurd (omega (arith, laws.positive, of_rest))
 
   -- a channel of 0 is 0 by any factor
   none_by : (c : Coefficient) (alpha : ℕ) → alpha ≤ max → term max c 0 alpha ≡ 0
   none_by Zero alpha h = refl
   none_by One alpha h = refl
-  none_by Alpha alpha h = none_of alpha h
+  none_by OtherAlpha alpha h = none_of alpha h
   none_by OneMinusAlpha alpha h = none_of (max - alpha) (omega arith)
 
   -- a factor that leaves the maximum under a transparent other side leaves each channel there
   left_by : (c : Coefficient) (d : ℕ) → term max c max 0 ≡ max → term max c d 0 ≡ d
   left_by Zero d h = absurd (omega (arith, laws.positive))
   left_by One d h = refl
-  left_by Alpha d h = absurd (omega (arith, laws.positive, of_none))
+  left_by OtherAlpha d h = absurd (omega (arith, laws.positive, of_none))
   left_by OneMinusAlpha d h = ap (channel_product max d) (let e : max - 0 ≡ max = omega arith in e) ∙ laws.identity d
 
   -- a factor that leaves nothing of the maximum under a transparent other side leaves no channel
@@ -60,7 +60,7 @@ module _ (max : ℕ) (laws : IsProduct fineness max (channel_product max)) where
   emptied_by : (c : Coefficient) (d : ℕ) → d ≤ max → term max c max 0 ≡ 0 → term max c d 0 ≡ 0
   emptied_by Zero d l h = refl
   emptied_by One d l h = absurd (omega (arith, laws.positive))
-  emptied_by Alpha d l h = laws.commutes d 0 ∙ none_of d l
+  emptied_by OtherAlpha d l h = laws.commutes d 0 ∙ none_of d l
   emptied_by OneMinusAlpha d l h = absurd (omega (arith, laws.positive, whole))
 
   sum_of : (x y d : ℕ) → x ≡ 0 → y ≡ d → d ≤ max → saturating_sum max x y ≡ d

@@ -8,8 +8,8 @@ use crate::model::ColorModel;
 use pix_chan::chan::{Alpha, Channel, Gamma};
 
 pub(crate) mod blocks;
+mod channelwise;
 mod depth;
-mod fours;
 mod gray;
 
 /// Returns a channel at another depth.

@@ -21,8 +21,8 @@ use crate::matte::Matte;
 use crate::model::ColorModel;
 use crate::rgb::Rgb;
 use crate::rows::{
-    Blit, CompositedColor, CompositedPixels, FadedPixels, Fill, MaskedBlit, MattedColor,
-    MattedPixels,
+    Blit, CompositedColor, CompositedPixels, FadedPixels, Fill, MaskedBlit, MaskedPixels,
+    MattedColor,
 };
 use pix_chan::chan::{Alpha, Channel, Gamma, Linear, Premultiplied};
 use pix_ops::ops::Blend;
@@ -38,6 +38,7 @@ pub type PixRgba<P> = Pix<4, <P as Pixel>::Chan, Rgb, <P as Pixel>::Alpha, <P as
 
 /// A pixel of `N` channels of type `C`: color model `M`, alpha mode `A`, gamma mode `G`.
 pub struct Pix<const N: usize, C, M, A, G> {
+    /// The channels, in the order of the color model.
     pub(crate) channels: [C; N],
     _model: PhantomData<M>,
     _alpha: PhantomData<A>,
@@ -111,7 +112,6 @@ pub trait Pixel: Copy + Debug + Default + PartialEq {
     /// let mut color = Rgba8p::new(10, 20, 30, 40);
     /// *color.get_mut(1) = Ch8::new(30);
     /// *color.alpha_mut() = Ch8::MAX;
-    /// *Rgb::red_mut(&mut color) = Rgb::blue(color); // (30, 30, 30, 255)
     /// ```
     fn get_mut(&mut self, ch: usize) -> &mut Self::Chan
         requires { ch < layout.count }
@@ -394,7 +394,7 @@ pub trait Pixel: Copy + Debug + Default + PartialEq {
             (map numbers dst.old) }
     {
         let format = PhantomData;
-        MattedPixels::<Self, O> { op, format }.blit(dst, src, mattes);
+        MaskedPixels::<Self, O> { op, format }.blit(dst, src, mattes);
     }
 
     /// Composites each pixel of `src` with that of `dst` at its index through the matte value

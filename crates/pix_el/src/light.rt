@@ -189,9 +189,6 @@ pub trait Light: Pixel {
     /// let photo = [SRgba8::new::<u8>(188, 0, 0, 255), SRgba8::new::<u8>(0, 188, 0, 128)];
     /// let light = photo[0].decode_srgb::<Rgba16p>(); // (32957, 0, 0, 65535)
     /// let shown = light.encode_srgb::<SRgba8>(); // (188, 0, 0, 255)
-    /// let (mut row, mut back) = ([Rgba16p::default(); 2], [SRgba8::default(); 2]);
-    /// SRgba8::decode_srgb_slice::<Rgba16p>(&mut row, &photo);
-    /// Rgba16p::encode_srgb_slice::<SRgba8>(&mut back, &row); // the photo as it was
     /// ```
     final fn decode_srgb<D>(self) -> D
     where
@@ -219,9 +216,6 @@ pub trait Light: Pixel {
     /// let photo = [SRgba8::new::<u8>(188, 0, 0, 255), SRgba8::new::<u8>(0, 188, 0, 128)];
     /// let light = photo[0].decode_srgb::<Rgba16p>(); // (32957, 0, 0, 65535)
     /// let shown = light.encode_srgb::<SRgba8>(); // (188, 0, 0, 255)
-    /// let (mut row, mut back) = ([Rgba16p::default(); 2], [SRgba8::default(); 2]);
-    /// SRgba8::decode_srgb_slice::<Rgba16p>(&mut row, &photo);
-    /// Rgba16p::encode_srgb_slice::<SRgba8>(&mut back, &row); // the photo as it was
     /// ```
     final fn encode_srgb<D>(self) -> D
     where
@@ -252,7 +246,6 @@ pub trait Light: Pixel {
     /// let shown = light.encode_srgb::<SRgba8>(); // (188, 0, 0, 255)
     /// let (mut row, mut back) = ([Rgba16p::default(); 2], [SRgba8::default(); 2]);
     /// SRgba8::decode_srgb_slice::<Rgba16p>(&mut row, &photo);
-    /// Rgba16p::encode_srgb_slice::<SRgba8>(&mut back, &row); // the photo as it was
     /// ```
     final fn decode_srgb_slice<D>(dst: &mut [D], src: &[Self])
     where

@@ -19,18 +19,18 @@ use crate::model::{ColorModel, is_hue};
 use pix_chan::chan::Channel;
 use pix_ops::ops::Blend;
 
+pub(crate) mod alpha_x16;
 pub(crate) mod block;
-pub(crate) mod coverage;
-pub(crate) mod eight;
-pub(crate) mod four;
-mod fours;
-pub(crate) mod half;
-pub(crate) mod interleaved;
+pub(crate) mod graya_x16;
+pub(crate) mod graya_x8;
 pub(crate) mod masked;
-pub(crate) mod one;
-pub(crate) mod pair;
+pub(crate) mod matted;
+pub(crate) mod planes_x16;
+mod quarters;
+pub(crate) mod rgba_x16;
+pub(crate) mod rgba_x4;
+pub(crate) mod rgba_x8;
 pub(crate) mod runs;
-pub(crate) mod two;
 pub(crate) mod unchanged;
 
 /// Composites the hues at the same index of all four slices, one after the other. The shortest

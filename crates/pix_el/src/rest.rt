@@ -6,8 +6,8 @@ ghost use Rattle.pix_chan.specs.Runs.{over};
 ghost use Rattle.pix_el.specs.PixelComposite.{pixel_composite, matted_composite, matte_value};
 
 use crate::el::Pixel;
-use crate::planes::coverage::coverage_rest;
-use crate::planes::masked::{covered_rest, faded_rest};
+use crate::planes::masked::{faded_rest, masked_rest};
+use crate::planes::matted::matted_rest;
 use crate::planes::runs::{color_rest, pixel_rest};
 use crate::stored::{Coverage, Stored};
 use pix_chan::chan::{Linear, Premultiplied};
@@ -88,7 +88,7 @@ pub(crate) fn finish_pixels<
 /// Composites a color through mattes with the pixels that larger blocks left. Condition: the format
 /// has an alpha channel.
 #[inline(always)]
-pub(crate) fn finish_coverage<
+pub(crate) fn finish_matted<
     O: Blend,
     P: Pixel<Alpha = Premultiplied, Gamma = Linear>,
     D: Stored<P>,
@@ -100,7 +100,7 @@ pub(crate) fn finish_coverage<
         (map M.numbers src.now) (map D.reads row.old) }
 {
     let count = row.len().min(src.len());
-    let start = coverage_rest::<O, P, D, M>(row, src, clr, count);
+    let start = matted_rest::<O, P, D, M>(row, src, clr, count);
     for i in start..count {
         matte_pixel::<O, P, D>(&mut row[i], clr, op, src[i].coverage());
     }
@@ -122,7 +122,7 @@ pub(crate) fn finish_masked<
         (zip (map M.numbers mask.now) (map S.reads src.now)) (map D.reads row.old) }
 {
     let count = row.len().min(src.len()).min(mask.len());
-    let start = covered_rest::<O, P, D, S, M>(row, src, mask, count);
+    let start = masked_rest::<O, P, D, S, M>(row, src, mask, count);
     for i in start..count {
         matte_pixel::<O, P, D>(&mut row[i], &src[i].load(), op, mask[i].coverage());
     }

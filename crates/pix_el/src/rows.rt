@@ -13,13 +13,13 @@ ghost use Rattle.pix_el.specs.Planes.{Replaces};
 
 use crate::el::Pixel;
 use crate::filled::{clear_row, copy_row, write_all};
-use crate::planes::coverage::coverage_runs;
 use crate::planes::is_interleaved;
-use crate::planes::masked::{covered_runs, faded_runs};
+use crate::planes::masked::{faded_runs, masked_runs};
+use crate::planes::matted::matted_runs;
 use crate::planes::runs::{color_runs, pixel_runs};
 use crate::planes::unchanged::{clears, replaces};
-use crate::rest::{finish_color, finish_coverage, finish_faded, finish_masked, finish_pixels};
-use crate::stored::{Coverage, Stored, see_channels};
+use crate::rest::{finish_color, finish_faded, finish_masked, finish_matted, finish_pixels};
+use crate::stored::{Coverage, Stored, establish_channels};
 use pix_chan::chan::{Linear, Premultiplied};
 use pix_ops::ops::Blend;
 use std::marker::PhantomData;
@@ -237,7 +237,7 @@ impl<P: Pixel<Alpha = Premultiplied, Gamma = Linear>, D: Stored<P>, O: Blend> Bl
     fn blit(&self, row: &mut [D], src: &[D]) {
         let count = row.len().min(src.len());
         if replaces::<O, P>() && row.len() <= SHORT {
-            see_channels::<P, D>(src);
+            establish_channels::<P, D>(src);
             let format = self.format;
             CopiedPixels::<P> { format }.blit(row, src);
         } else if clears::<O, P>() {
@@ -280,10 +280,10 @@ impl<
         if clears::<O, P>() {
             clear_row::<P, D>(&mut row[..count]);
         } else {
-            let start = coverage_runs::<O, P, D, M>(row, src, &self.clr, count);
+            let start = matted_runs::<O, P, D, M>(row, src, &self.clr, count);
             if start < count {
                 let (rest, mattes) = (&mut row[start..], &src[start..]);
-                finish_coverage::<O, P, D, M>(rest, mattes, &self.clr, self.op);
+                finish_matted::<O, P, D, M>(rest, mattes, &self.clr, self.op);
             }
         }
     }
@@ -291,7 +291,7 @@ impl<
 
 /// Composites pixels through mattes.
 #[derive(Clone, Copy)]
-pub struct MattedPixels<P, O> {
+pub struct MaskedPixels<P, O> {
     /// The operator.
     pub op: O,
     /// The format of the pixels.
@@ -304,7 +304,7 @@ impl<
     S: Stored<P>,
     M: Coverage<P::Chan>,
     O: Blend,
-> MaskedBlit<D, S, M> for MattedPixels<P, O> {
+> MaskedBlit<D, S, M> for MaskedPixels<P, O> {
     ghost can_blit = { P.layout.count ≡ P.layout.alpha + 1 };
 
     ghost reads = { D.reads };
@@ -320,7 +320,7 @@ impl<
         if clears::<O, P>() {
             clear_row::<P, D>(&mut row[..count]);
         } else {
-            let start = covered_runs::<O, P, D, S, M>(row, src, mask, count);
+            let start = masked_runs::<O, P, D, S, M>(row, src, mask, count);
             if start < count {
                 let (rest, sources) = (&mut row[start..], &src[start..]);
                 finish_masked::<O, P, D, S, M>(rest, sources, &mask[start..], self.op);

@@ -21,7 +21,7 @@ pub trait Stored<P: Pixel>: Copy {
     fn load(&self) -> P
         ensures { P.numbers result ≡ reads self.now };
 
-    /// Returns what a pixel is in memory.
+    /// Returns a pixel as it lies in memory.
     fn store(pixel: &P) -> Self
         ensures { reads result ≡ P.numbers pixel.now };
 
@@ -139,7 +139,7 @@ impl Coverage<Ch16> for u16 {
 
 /// Establishes that each pixel has the channels of its format. It compiles to no instruction.
 #[inline(always)]
-pub fn see_channels<P: Pixel, D: Stored<P>>(pixels: &[D])
+pub fn establish_channels<P: Pixel, D: Stored<P>>(pixels: &[D])
     ensures { (k : ℕ) → k < length pixels.now
         → length (get_or (map D.reads pixels.now) k []) ≡ P.layout.count }
 {

@@ -141,20 +141,35 @@ pub struct PixCommandGraya8<'a> {
 /// A command on pixels `D`, with mattes `M`.
 #[derive(Clone, Copy, Drop)]
 pub struct FlatCommand<'a, D, M> {
+    /// What is done.
     pub(crate) kind: u32,
+    /// The number of the operator.
     pub(crate) op: u32,
+    /// The region of the destination.
     pub(crate) to: PixRegion,
+    /// The region of the source.
     pub(crate) from: PixRegion,
+    /// The color.
     pub(crate) color: D,
+    /// The pixels of the source.
     pub(crate) pixels: &'a [D],
+    /// The mattes.
     pub(crate) mattes: &'a [M],
+    /// The width of the source.
     pub(crate) width: u32,
+    /// The height of the source.
     pub(crate) height: u32,
+    /// The stride of the source.
     pub(crate) stride: u32,
+    /// The region of the mask.
     pub(crate) mask: PixRegion,
+    /// The width of the mask.
     pub(crate) mask_width: u32,
+    /// The height of the mask.
     pub(crate) mask_height: u32,
+    /// The stride of the mask.
     pub(crate) mask_stride: u32,
+    /// The opacity.
     pub(crate) alpha: M,
 }
 

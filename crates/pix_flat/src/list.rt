@@ -14,7 +14,9 @@ use std::marker::PhantomData;
 /// A list of commands on images of the format `P`, with mattes `M`.
 #[derive(Drop)]
 pub(crate) struct FlatList<'b, P, M, C> {
+    /// The commands.
     pub(crate) commands: &'b [C],
+    /// The formats.
     pub(crate) formats: PhantomData<(P, M)>,
 }
 

@@ -5,7 +5,7 @@ use Rattle.std.proofs.lemmas.List.Elements.{All-head, All-tail, All-weaker}
 use Rattle.std.proofs.lemmas.List.Sums.{sum_by-le}
 use Rattle.std.proofs.lemmas.Bool.{eqb-true}
 use Rattle.pix_ops.specs.declared.ops.Op.{Op}
-use Rattle.pix_ops.specs.Operators.{Coefficient, Zero, One, Alpha, OneMinusAlpha, row, reads, enters, product_count}
+use Rattle.pix_ops.specs.Operators.{Coefficient, Zero, One, OtherAlpha, OneMinusAlpha, row, reads, enters, product_count}
 use Rattle.pix_ops.specs.ExactRun.{ChannelEffect, Replaced, Composited, Matted, Budget, both, composite_budget, budget_step, effect_count, doubled_counts, IsUnmatted, HasConstantSource, AreAtMost, HasSmallBudget}
 
 -- 1 where the alpha's budget stays: where the destination's coefficient is not zero, or the
@@ -24,13 +24,13 @@ spends op count before = record { channel = refl; alpha = refl }
 pub reads_most : (a : Coefficient) → reads a ≤ 1
 reads_most Zero = omega arith
 reads_most One = omega arith
-reads_most Alpha = omega arith
+reads_most OtherAlpha = omega arith
 reads_most OneMinusAlpha = omega arith
 
 enters_most : (a : Coefficient) → enters a ≤ 1
 enters_most Zero = omega arith
 enters_most One = omega arith
-enters_most Alpha = omega arith
+enters_most OtherAlpha = omega arith
 enters_most OneMinusAlpha = omega arith
 
 count_most : (op : Op) → product_count op ≤ 1 + reads (row op).source

@@ -4,7 +4,7 @@ use Rattle.std.specs.Prelude.{⊤, Bool, true}
 use Rattle.std.proofs.Common.{◌≡◌, ℕ, ◌+◌, ◌-◌, ◌*◌, ◌≤◌, min, refl, ap, inl, inr, arith, mul-le-mul_left, mul-le-mul_right}
 use Rattle.std.proofs.lemmas.Bool.{cases_lt}
 use Rattle.pix_ops.specs.declared.ops.Op.{Op}
-use Rattle.pix_ops.specs.Operators.{Coefficient, Zero, One, Alpha, OneMinusAlpha, row, reads, enters, leaves_room}
+use Rattle.pix_ops.specs.Operators.{Coefficient, Zero, One, OtherAlpha, OneMinusAlpha, row, reads, enters, leaves_room}
 use Rattle.pix_ops.specs.ExactComposite.{weight, Within}
 use Rattle.pix_ops.proofs.Table.{passed_by_each}
 use Rattle.pix_ops.proofs.Within.{within_cut, within_more, within_times, min_times, rest_times}
@@ -16,7 +16,7 @@ exact_by a b m n f e d da = min (f * e) (m * weight a e da + d * weight b f n)
 weight_times : (a : Coefficient) (max alpha w : ℕ) → alpha ≤ max → weight a max alpha * w ≡ weight a (max * w) (alpha * w)
 weight_times Zero max alpha w l = omega arith
 weight_times One max alpha w l = refl
-weight_times Alpha max alpha w l = refl
+weight_times OtherAlpha max alpha w l = refl
 weight_times OneMinusAlpha max alpha w l = omega (arith, rest_times max alpha w l, mul-le-mul_right w l)
 
 -- an exact composite, times w, is the exact composite of the fractions over w
@@ -32,19 +32,19 @@ exact_times a b max m n f d da w l =
 weight_small : (b : Coefficient) (f n : ℕ) → n ≤ f → weight b f n ≤ enters b * f
 weight_small Zero f n l = omega arith
 weight_small One f n l = omega arith
-weight_small Alpha f n l = omega arith
+weight_small OtherAlpha f n l = omega arith
 weight_small OneMinusAlpha f n l = omega arith
 
 pub weight_below : (b : Coefficient) (f n : ℕ) → n ≤ f → weight b f n ≤ f
 weight_below Zero f n l = omega arith
 weight_below One f n l = omega arith
-weight_below Alpha f n l = omega arith
+weight_below OtherAlpha f n l = omega arith
 weight_below OneMinusAlpha f n l = omega arith
 
 source_moves : (a : Coefficient) (m e z y h : ℕ) → z ≤ e → y ≤ e → Within h z y → Within (reads a * (m * h)) (m * weight a e z) (m * weight a e y)
 source_moves Zero m e z y h lz ly p = omega arith
 source_moves One m e z y h lz ly p = omega arith
-source_moves Alpha m e z y h lz ly p = omega (arith, mul-le-mul_left m p.above, mul-le-mul_left m p.below)
+source_moves OtherAlpha m e z y h lz ly p = omega (arith, mul-le-mul_left m p.above, mul-le-mul_left m p.below)
 source_moves OneMinusAlpha m e z y h lz ly p =
     let q : Within h (e - z) (e - y) = omega arith in
     omega (arith, mul-le-mul_left m q.above, mul-le-mul_left m q.below)
@@ -71,7 +71,7 @@ channel_stays a b m n f e c z d y g h lm ln lz ly p q =
 abbrev pub Fits : Coefficient → ℕ → ℕ → ℕ → Type 0
 Fits Zero n q f = ⊤
 Fits One n q f = ⊤
-Fits Alpha n q f = n + q ≤ f
+Fits OtherAlpha n q f = n + q ≤ f
 Fits OneMinusAlpha n q f = ⊤
 
 -- whether this holds for two coefficients: where the source's reads the destination's alpha, the
@@ -79,16 +79,16 @@ Fits OneMinusAlpha n q f = ⊤
 abbrev pair_fits : Coefficient → Coefficient → Bool
 pair_fits Zero b = true
 pair_fits One b = true
-pair_fits Alpha b = leaves_room b
+pair_fits OtherAlpha b = leaves_room b
 pair_fits OneMinusAlpha b = true
 
 pair_keeps : (a b : Coefficient) (n f : ℕ) → pair_fits a b ≡ true → n ≤ f → Fits a n (weight b f n) f
 pair_keeps Zero b n f fits l = tt
 pair_keeps One b n f fits l = tt
-pair_keeps Alpha Zero n f fits l = omega arith
-pair_keeps Alpha One n f fits l = absurd (cc)
-pair_keeps Alpha Alpha n f fits l = absurd (cc)
-pair_keeps Alpha OneMinusAlpha n f fits l = omega arith
+pair_keeps OtherAlpha Zero n f fits l = omega arith
+pair_keeps OtherAlpha One n f fits l = absurd (cc)
+pair_keeps OtherAlpha OtherAlpha n f fits l = absurd (cc)
+pair_keeps OtherAlpha OneMinusAlpha n f fits l = omega arith
 pair_keeps OneMinusAlpha b n f fits l = tt
 
 -- it holds of all operators, and not of each pair of coefficients
@@ -122,7 +122,7 @@ alpha_moves One n q f e z y h ln lq fits lz ly p = record {
   moves = omega (arith, mul-le-mul_left q p.above, mul-le-mul_left q p.below);
   balanced = λ m g v lm s t. omega (arith, balanced_by_weight q f g h v lq s);
 }
-alpha_moves Alpha n q f e z y h ln lq fits lz ly p = record {
+alpha_moves OtherAlpha n q f e z y h ln lq fits lz ly p = record {
   rate = n + q;
   small = fits;
   moves = omega (arith, mul-le-mul_left (n + q) p.above, mul-le-mul_left (n + q) p.below);

@@ -13,7 +13,7 @@ use Rattle.pix_ops.specs.declared.ops.Op.{Op}
 use Rattle.pix_chan.specs.Number.{wrapping_sum, wrapping_difference}
 use Rattle.pix_chan.specs.Product.{channel_product, IsProduct}
 use Rattle.pix_chan.specs.Step.{step, channel_lerp, IsBetween, IsLerp}
-use Rattle.pix_ops.specs.Operators.{Coefficient, Zero, One, Alpha, OneMinusAlpha, row}
+use Rattle.pix_ops.specs.Operators.{Coefficient, Zero, One, OtherAlpha, OneMinusAlpha, row}
 use Rattle.pix_ops.specs.Composite.{channel_composite}
 use Rattle.pix_chan.specs.Laws.{ChannelLaws, known_laws}
 use Rattle.pix_ops.specs.Hue.{half_turn, shorter_arc, hue_after, hue_weight, hue_steps, IsHueMove}
@@ -240,7 +240,7 @@ hue_moves {max} {m} {d} {s} {weight} x k is =
 term_lesser : (a : Coefficient) (fine max x alpha : ℕ) (product : ℕ → ℕ → ℕ) → IsProduct fine max product → x ≤ max → alpha ≤ max → term_by product max a x alpha ≤ x
 term_lesser Zero fine max x alpha product laws l k = omega arith
 term_lesser One fine max x alpha product laws l k = omega arith
-term_lesser Alpha fine max x alpha product laws l k = laws.at_most_operand x alpha l k
+term_lesser OtherAlpha fine max x alpha product laws l k = laws.at_most_operand x alpha l k
 term_lesser OneMinusAlpha fine max x alpha product laws l k = laws.at_most_operand x (max - alpha) l (omega arith)
 
 -- The composite of the source's alpha with no channel is the weight of a hue.

@@ -5,7 +5,7 @@ use Rattle.std.proofs.Common.{ℕ, ◌+◌, ◌-◌, ◌*◌, ◌≤◌, min, ar
 use Rattle.std.proofs.lemmas.Nat.{mul-le}
 use Rattle.pix_ops.specs.declared.ops.Op.{Op}
 use Rattle.pix_chan.specs.Product.{channel_product, fineness, IsProduct}
-use Rattle.pix_ops.specs.Operators.{Coefficient, Zero, One, Alpha, OneMinusAlpha, row, reads, enters}
+use Rattle.pix_ops.specs.Operators.{Coefficient, Zero, One, OtherAlpha, OneMinusAlpha, row, reads, enters}
 use Rattle.pix_ops.specs.Composite.{channel_composite}
 use Rattle.pix_ops.specs.ExactComposite.{weight, Within, IsNear, IsNearMatted}
 use Rattle.pix_ops.proofs.Within.{within_cut_times, within_cancel, min_times, rest_times}
@@ -52,7 +52,7 @@ pub source_near : (a : Coefficient) (fine k max f s n alpha : ℕ) (product : �
     → Within ((reads a + k * enters a) * f) (term_by product max a s alpha * f * fine) (n * weight a max alpha * fine)
 source_near Zero fine k max f s n alpha product laws from l = omega arith
 source_near One fine k max f s n alpha product laws from l = let c = from.close in omega arith
-source_near Alpha fine k max f s n alpha product laws from l = let c = product_near fine max k f s n alpha product laws from l in omega arith
+source_near OtherAlpha fine k max f s n alpha product laws from l = let c = product_near fine max k f s n alpha product laws from l in omega arith
 source_near OneMinusAlpha fine k max f s n alpha product laws from l = let c = product_near fine max k f s n (max - alpha) product laws from (omega arith) in omega arith
 
 -- the destination's term, by the source's alpha t
@@ -60,7 +60,7 @@ pub dest_near : (b : Coefficient) (fine k max f t n d : ℕ) (product : ℕ → 
     → Within (((1 + k) * reads b) * f) (term_by product max b d t * f * fine) (d * weight b f n * fine)
 dest_near Zero fine k max f t n d product laws from l = omega arith
 dest_near One fine k max f t n d product laws from l = omega arith
-dest_near Alpha fine k max f t n d product laws from l = let c = product_near fine max k f t n d product laws from l in rw (laws.commutes d t) (omega arith)
+dest_near OtherAlpha fine k max f t n d product laws from l = let c = product_near fine max k f t n d product laws from l in rw (laws.commutes d t) (omega arith)
 dest_near OneMinusAlpha fine k max f t n d product laws from l =
     let c = product_near fine max k f (max - t) (f - n) d product laws (rest_from fine k max f t n from) l in
     rw (laws.commutes d (max - t)) (omega arith)

@@ -4,7 +4,7 @@ use Rattle.std.specs.Prelude.{All, fold}
 use Rattle.std.proofs.Common.{◌≡◌, ℕ, ◌+◌, ◌*◌, ◌<◌, ◌≤◌, min, List, [], ◌∷◌, arith, mul-pos, mul-le-mul_right}
 use Rattle.std.proofs.lemmas.List.Elements.{All-head, All-tail}
 use Rattle.pix_chan.specs.Product.{channel_product, IsProduct}
-use Rattle.pix_ops.specs.Operators.{Coefficient, Zero, One, Alpha, OneMinusAlpha, row, count_by, product_count, matted_count, reads, enters}
+use Rattle.pix_ops.specs.Operators.{Coefficient, Zero, One, OtherAlpha, OneMinusAlpha, row, count_by, product_count, matted_count, reads, enters}
 use Rattle.pix_ops.specs.ExactComposite.{weight, Within}
 use Rattle.pix_ops.specs.ExactRun.{ChannelEffect, Replaced, Composited, Matted, InRange, Rounded, rounded_step, Exact, exact_step, Budget, budget_step}
 use Rattle.pix_ops.proofs.Within.{within_chain}
@@ -78,7 +78,7 @@ module _ (fine k max f : ℕ) (product : ℕ → ℕ → ℕ) (laws : IsProduct 
       let same : count_by k a Zero + 0 * h + reads a * h ≡ count_by k a Zero + reads a * h = omega arith in
       rw none (rw same at step)
   alpha_spends a One t n da z w h alpha fits q = alpha_step a One t n da z w h (omega (arith, reads_most a)) alpha fits q
-  alpha_spends a Alpha t n da z w h alpha fits q = alpha_step a Alpha t n da z w h (omega (arith, reads_most a)) alpha fits q
+  alpha_spends a OtherAlpha t n da z w h alpha fits q = alpha_step a OtherAlpha t n da z w h (omega (arith, reads_most a)) alpha fits q
   alpha_spends a OneMinusAlpha t n da z w h alpha fits q = alpha_step a OneMinusAlpha t n da z w h (omega (arith, reads_most a)) alpha fits q
 
   -- what becomes of both

@@ -4,7 +4,7 @@ use Rattle.std.proofs.Common.{◌≡◌, ℕ, ◌+◌, ◌-◌, ◌≤◌, inl, 
 use Rattle.std.proofs.lemmas.Bool.{or_cases}
 use Rattle.pix_ops.specs.declared.ops.Op.{Op}
 use Rattle.pix_chan.specs.Product.{channel_product, IsProduct}
-use Rattle.pix_ops.specs.Operators.{Coefficient, Zero, One, Alpha, OneMinusAlpha, row, leaves_room, sum_fits}
+use Rattle.pix_ops.specs.Operators.{Coefficient, Zero, One, OtherAlpha, OneMinusAlpha, row, leaves_room, sum_fits}
 use Rattle.pix_ops.specs.Composite.{term_sum, channel_composite}
 use Rattle.pix_ops.proofs.Terms.{term_by, term_is}
 
@@ -12,7 +12,7 @@ use Rattle.pix_ops.proofs.Terms.{term_by, term_is}
 pub term_grows : (a : Coefficient) (fine max s t alpha : ℕ) (product : ℕ → ℕ → ℕ) → IsProduct fine max product → s ≤ t → term_by product max a s alpha ≤ term_by product max a t alpha
 term_grows Zero fine max s t alpha product laws l = omega arith
 term_grows One fine max s t alpha product laws l = l
-term_grows Alpha fine max s t alpha product laws l = laws.monotone s t alpha l
+term_grows OtherAlpha fine max s t alpha product laws l = laws.monotone s t alpha l
 term_grows OneMinusAlpha fine max s t alpha product laws l = laws.monotone s t (max - alpha) l
 
 -- a product is at most its second operand
@@ -23,7 +23,7 @@ lesser_right fine max x y product laws lx ly = rw (laws.commutes x y) (laws.at_m
 term_small : (a : Coefficient) (fine max x alpha : ℕ) (product : ℕ → ℕ → ℕ) → IsProduct fine max product → x ≤ max → alpha ≤ max → term_by product max a x alpha ≤ x
 term_small Zero fine max x alpha product laws lx la = omega arith
 term_small One fine max x alpha product laws lx la = omega arith
-term_small Alpha fine max x alpha product laws lx la = laws.at_most_operand x alpha lx la
+term_small OtherAlpha fine max x alpha product laws lx la = laws.at_most_operand x alpha lx la
 term_small OneMinusAlpha fine max x alpha product laws lx la = laws.at_most_operand x (max - alpha) lx (omega arith)
 
 -- a side that leaves room keeps to what the other side's alpha leaves of the max
@@ -31,7 +31,7 @@ leaves_rest : (a : Coefficient) (fine max x alpha : ℕ) (product : ℕ → ℕ 
     → term_by product max a x alpha + alpha ≤ max
 leaves_rest Zero fine max x alpha product laws room lx la = omega arith
 leaves_rest One fine max x alpha product laws room lx la = absurd (cc)
-leaves_rest Alpha fine max x alpha product laws room lx la = absurd (cc)
+leaves_rest OtherAlpha fine max x alpha product laws room lx la = absurd (cc)
 leaves_rest OneMinusAlpha fine max x alpha product laws room lx la = omega (arith, lesser_right fine max x (max - alpha) product laws lx (omega arith))
 
 -- the alphas' terms fit together where one side leaves room for the other

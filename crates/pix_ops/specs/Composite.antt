@@ -3,13 +3,13 @@ use Rattle.std.specs.Prelude.{ℕ, ◌+◌, ◌-◌}
 use Rattle.pix_ops.specs.declared.ops.Op.{Op}
 use Rattle.pix_chan.specs.Number.{saturating_sum}
 use Rattle.pix_chan.specs.Product.{channel_product}
-use Rattle.pix_ops.specs.Operators.{Coefficient, Zero, One, Alpha, OneMinusAlpha, row}
+use Rattle.pix_ops.specs.Operators.{Coefficient, Zero, One, OtherAlpha, OneMinusAlpha, row}
 
 -- the channel x times a coefficient, where alpha is the other side's
 abbrev pub term : ℕ → Coefficient → ℕ → ℕ → ℕ
 term max Zero x alpha = 0
 term max One x alpha = x
-term max Alpha x alpha = channel_product max x alpha
+term max OtherAlpha x alpha = channel_product max x alpha
 term max OneMinusAlpha x alpha = channel_product max x (max - alpha)
 
 -- the two terms of the source's channel s, of alpha sa, and the destination's channel d, of alpha

@@ -2,13 +2,13 @@
 use Rattle.std.specs.Prelude.{ℕ, ◌+◌, ◌-◌, ◌*◌, ◌≤◌, min}
 use Rattle.pix_ops.specs.declared.ops.Op.{Op}
 use Rattle.pix_chan.specs.Product.{fineness}
-use Rattle.pix_ops.specs.Operators.{Coefficient, Zero, One, Alpha, OneMinusAlpha, row, product_count, matted_count}
+use Rattle.pix_ops.specs.Operators.{Coefficient, Zero, One, OtherAlpha, OneMinusAlpha, row, product_count, matted_count}
 
 -- a coefficient as a part of a whole, where alpha is the other side's, a part of the same whole
 abbrev pub weight : Coefficient → ℕ → ℕ → ℕ
 weight Zero whole alpha = 0
 weight One whole alpha = whole
-weight Alpha whole alpha = alpha
+weight OtherAlpha whole alpha = alpha
 weight OneMinusAlpha whole alpha = whole - alpha
 
 -- The source's channel s and alpha sa, of the whole f, composited with the destination's channel d

@@ -3,7 +3,7 @@
 use Rattle.std.specs.Prelude.{ℕ, max, ◌+◌, ◌*◌, ◌<◌, ◌≤◌, IsTrue, List, length, fold, All, sum_by, ⊤}
 use Rattle.pix_ops.specs.declared.ops.Op.{Op}
 use Rattle.pix_chan.specs.Product.{channel_product, fineness}
-use Rattle.pix_ops.specs.Operators.{Coefficient, Zero, One, Alpha, OneMinusAlpha, row, has_constant_source, reads, enters, product_count, matted_count}
+use Rattle.pix_ops.specs.Operators.{Coefficient, Zero, One, OtherAlpha, OneMinusAlpha, row, has_constant_source, reads, enters, product_count, matted_count}
 use Rattle.pix_ops.specs.Composite.{channel_composite}
 use Rattle.pix_ops.specs.ExactComposite.{exact_composite, Within}
 

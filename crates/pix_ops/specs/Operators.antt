@@ -8,7 +8,7 @@ use Rattle.pix_ops.specs.declared.ops.Op.TheVariants.{Src, Dest, SrcOver, DestOv
 pub data Coefficient : Type 0 where
   Zero : Coefficient
   One : Coefficient
-  Alpha : Coefficient
+  OtherAlpha : Coefficient
   OneMinusAlpha : Coefficient
 
 -- an operator: the coefficients of source and destination
@@ -24,10 +24,10 @@ row SrcOver = record { source = One; dest = OneMinusAlpha }
 row DestOver = record { source = OneMinusAlpha; dest = One }
 row SrcOut = record { source = OneMinusAlpha; dest = Zero }
 row DestOut = record { source = Zero; dest = OneMinusAlpha }
-row SrcIn = record { source = Alpha; dest = Zero }
-row DestIn = record { source = Zero; dest = Alpha }
-row SrcAtop = record { source = Alpha; dest = OneMinusAlpha }
-row DestAtop = record { source = OneMinusAlpha; dest = Alpha }
+row SrcIn = record { source = OtherAlpha; dest = Zero }
+row DestIn = record { source = Zero; dest = OtherAlpha }
+row SrcAtop = record { source = OtherAlpha; dest = OneMinusAlpha }
+row DestAtop = record { source = OneMinusAlpha; dest = OtherAlpha }
 row Xor = record { source = OneMinusAlpha; dest = OneMinusAlpha }
 row Clear = record { source = Zero; dest = Zero }
 row Plus = record { source = One; dest = One }
@@ -36,14 +36,14 @@ row Plus = record { source = One; dest = One }
 abbrev pub reads : Coefficient → ℕ
 reads Zero = 0
 reads One = 0
-reads Alpha = 1
+reads OtherAlpha = 1
 reads OneMinusAlpha = 1
 
 -- 1 where a coefficient is not zero, so that its side enters the composite
 abbrev pub enters : Coefficient → ℕ
 enters Zero = 0
 enters One = 1
-enters Alpha = 1
+enters OtherAlpha = 1
 enters OneMinusAlpha = 1
 
 -- How many channel products a composite by the coefficients rounds; k is 0 without a matte, and 1
@@ -69,7 +69,7 @@ has_constant_source op = reads (row op).source == 0
 abbrev pub leaves_room : Coefficient → Bool
 leaves_room Zero = true
 leaves_room One = false
-leaves_room Alpha = false
+leaves_room OtherAlpha = false
 leaves_room OneMinusAlpha = true
 
 -- whether the sum of premultiplied sides never passes the maximum: one of them leaves room for the

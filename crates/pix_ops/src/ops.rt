@@ -10,12 +10,12 @@ ghost use Rattle.pix_ops.specs.OperatorNames.{operators, op_number, op_name, ope
 ghost use Rattle.pix_ops.specs.Composite.{channel_composite, run_composite};
 ghost use Rattle.pix_chan.specs.Runs.{over, triples};
 
-use crate::ops::run::{Alpha, Factor, One, OneMinusAlpha, Zero};
+use crate::ops::factor::{Factor, One, OneMinusAlpha, OtherAlpha, Zero};
 use crate::ops::visitor::OneChannel;
 use pix_chan::chan::Channel;
 
 #[doc(hidden)]
-pub mod run;
+pub mod factor;
 mod visitor;
 
 pub use visitor::{OpVisitor, SliceVisitor};
@@ -87,7 +87,6 @@ impl PartialEq for Op {
 /// let (src, sa) = (Ch8::new(50), Ch8::new(128));
 /// let (mut dst, da) = (Ch8::new(200), Ch8::MAX);
 /// SrcOver::composite(&mut dst, Ch8::MAX - da, &src, Ch8::MAX - sa); // 50 + 200 * 127/255
-/// Op::Plus.composite(&mut dst, Ch8::MAX - da, &src, Ch8::MAX - sa); // 50 more
 /// ```
 pub trait Blend: Copy {
     /// The operator as a value.
@@ -107,8 +106,8 @@ pub trait Blend: Copy {
         *dst = <Self::Source as Factor>::term(*src, da1) + <Self::Dest as Factor>::term(*dst, sa1);
     }
 
-    /// Composites the channels of the same index of all four as [`composite`](Blend::composite)
-    /// does. The shortest length decides, and the rest of `dst` stays as it is.
+    /// Composites each channel of `src` with that of `dst` at its index. `da1` and `sa1` have one
+    /// minus the alphas there. The shortest length decides, and the rest of `dst` stays as it is.
     #[inline(always)]
     final fn composite_run<C: Channel>(dst: &mut [C], da1: &[C], src: &[C], sa1: &[C])
         ensures { map C.number dst.new ≡ over (run_composite C.max op)
@@ -132,10 +131,11 @@ pub trait Blend: Copy {
         }
     }
 
-    /// Composites at most thirty-two channels as [`composite_run`](Blend::composite_run) does. It
-    /// takes less time, since no length is tried.
+    /// Composites each channel of `src` with that of `dst` at its index. `da1` and `sa1` have one
+    /// minus the alphas there. It takes less time than [`composite_run`](Blend::composite_run),
+    /// since it compares no lengths.
     ///
-    /// Condition: all four have one length.
+    /// Condition: all four have one length, of at most thirty-two.
     #[doc(hidden)]
     #[inline(always)]
     final fn composite_block<C: Channel>(dst: &mut [C], da1: &[C], src: &[C], sa1: &[C])
@@ -389,7 +389,7 @@ pub struct SrcIn;
 impl Blend for SrcIn {
     ghost op = { Op.SrcIn };
 
-    type Source = Alpha;
+    type Source = OtherAlpha;
 
     type Dest = Zero;
 
@@ -407,7 +407,7 @@ impl Blend for DestIn {
 
     type Source = Zero;
 
-    type Dest = Alpha;
+    type Dest = OtherAlpha;
 
     ghost tabled = { (refl, refl) };
 
@@ -421,7 +421,7 @@ pub struct SrcAtop;
 impl Blend for SrcAtop {
     ghost op = { Op.SrcAtop };
 
-    type Source = Alpha;
+    type Source = OtherAlpha;
 
     type Dest = OneMinusAlpha;
 
@@ -439,7 +439,7 @@ impl Blend for DestAtop {
 
     type Source = OneMinusAlpha;
 
-    type Dest = Alpha;
+    type Dest = OtherAlpha;
 
     ghost tabled = { (refl, refl) };
 

@@ -6,7 +6,7 @@ use Rattle.std.proofs.lemmas.List.FromFn.{fill_by_all, get_or-map-range_with_len
 use Rattle.pix_ops.specs.declared.ops.Op.{Op}
 use Rattle.pix_chan.specs.Number.{saturating_sum}
 use Rattle.pix_chan.specs.Product.{channel_product, fineness, IsProduct}
-use Rattle.pix_ops.specs.Operators.{Coefficient, Zero, One, Alpha, OneMinusAlpha, row}
+use Rattle.pix_ops.specs.Operators.{Coefficient, Zero, One, OtherAlpha, OneMinusAlpha, row}
 use Rattle.pix_ops.specs.Composite.{term, channel_composite}
 use Rattle.pix_ops.specs.Hue.{hue_composite, hue_after, hue_steps}
 use Rattle.pix_ops.proofs.Transparent.{over_hue}
@@ -68,14 +68,14 @@ module _ (layout : Layout) (laws : IsProduct fineness layout.max (channel_produc
   zero_term : (c : Coefficient) (a : ℕ) → a ≤ layout.max → term layout.max c 0 a ≡ 0
   zero_term Zero a le = refl
   zero_term One a le = refl
-  zero_term Alpha a le = let e : channel_product layout.max 0 a ≤ 0 = laws.at_most_operand 0 a (omega arith) le in omega (arith, e)
+  zero_term OtherAlpha a le = let e : channel_product layout.max 0 a ≤ 0 = laws.at_most_operand 0 a (omega arith) le in omega (arith, e)
   zero_term OneMinusAlpha a le =
       let e : channel_product layout.max 0 (layout.max - a) ≤ 0 = laws.at_most_operand 0 (layout.max - a) (omega arith) (omega arith) in omega (arith, e)
 
   kept_term : (c : Coefficient) (d : ℕ) → is_one_at_none c ≡ true → term layout.max c d 0 ≡ d
   kept_term Zero d keeps = absurd (let f : false ≡ true = keeps in cc)
   kept_term One d keeps = refl
-  kept_term Alpha d keeps = absurd (let f : false ≡ true = keeps in cc)
+  kept_term OtherAlpha d keeps = absurd (let f : false ≡ true = keeps in cc)
   kept_term OneMinusAlpha d keeps = let all : layout.max - 0 ≡ layout.max = omega arith in ap (channel_product layout.max d) all ∙ laws.identity d
 
   -- one channel that is no hue, and a hue

@@ -2,7 +2,7 @@
 use Rattle.std.specs.Prelude.{◌≡◌, ℕ, ◌<◌, Bool, true, false, List, All}
 use Rattle.pix_ops.specs.declared.ops.Op.{Op}
 use Rattle.pix_ops.specs.declared.ops.Op.TheVariants.{SrcOver}
-use Rattle.pix_ops.specs.Operators.{Coefficient, Zero, One, Alpha, OneMinusAlpha, row}
+use Rattle.pix_ops.specs.Operators.{Coefficient, Zero, One, OtherAlpha, OneMinusAlpha, row}
 use Rattle.pix_el.specs.Pixel.{Layout}
 use Rattle.pix_el.specs.Transparent.{IsTransparent, IsUnchanged}
 use Rattle.pix_raster.specs.Image.{Image, point, region_of}
@@ -26,7 +26,7 @@ StaysUnderTransparent layout numbers mattes commands old new =
 abbrev pub is_one_at_none : Coefficient → Bool
 is_one_at_none Zero = false
 is_one_at_none One = true
-is_one_at_none Alpha = false
+is_one_at_none OtherAlpha = false
 is_one_at_none OneMinusAlpha = true
 
 -- whether an operator keeps a pixel under a transparent source, as the destination's coefficient

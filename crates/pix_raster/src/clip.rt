@@ -17,7 +17,9 @@ use std::ops::Range;
 /// there.
 #[derive(Drop)]
 pub(crate) struct ClippedRect {
+    /// The columns.
     pub(crate) columns: Range<usize>,
+    /// The rows.
     pub(crate) rows: Range<usize>,
 }
 
@@ -34,7 +36,9 @@ pub(crate) struct AxisOverlap {
 /// point.
 #[derive(Drop)]
 pub(crate) struct Overlap {
+    /// The overlap of their columns.
     pub(crate) columns: AxisOverlap,
+    /// The overlap of their rows.
     pub(crate) rows: AxisOverlap,
 }
 

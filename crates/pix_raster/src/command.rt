@@ -12,27 +12,27 @@ use pix_ops::ops::Op;
 /// # Examples
 ///
 /// ```rust
-///     let (reg, clr) = (Region::new(8, 8, 16, 16), Rgba8p::new(0, 0, 64, 64));
-///     let op = Op::SrcOver;
-///     let commands: [Command<'_, Rgba8p, Matte8>; 3] = [
-///         Command::Clear,
-///         Command::CopyColor { reg, clr },
-///         Command::Color { reg, clr, op },
-///     ];
-///     page.run(&commands);
+/// let (reg, clr) = (Region::new(8, 8, 16, 16), Rgba8p::new(0, 0, 64, 64));
+/// let op = Op::SrcOver;
+/// let commands: [Command<'_, Rgba8p, Matte8>; 3] = [
+///     Command::Clear,
+///     Command::CopyColor { reg, clr },
+///     Command::Color { reg, clr, op },
+/// ];
+/// page.run(&commands);
 /// ```
 #[derive(Drop)]
 pub enum Command<'a, P, M> {
-    /// Clears the raster, as [`Raster::clear`] does.
+    /// Makes every pixel the default one, whose channels are all 0 ([`Raster::clear`]).
     Clear,
-    /// Copies a color to a region, as [`Raster::copy_color`] does.
+    /// Copies a color to each pixel of a region ([`Raster::copy_color`]).
     CopyColor {
         /// The region.
         reg: Region,
         /// The color.
         clr: P,
     },
-    /// Copies a region of another raster, as [`Raster::copy_raster`] does.
+    /// Copies a region of another raster, pixel by pixel, to a region ([`Raster::copy_raster`]).
     CopyRaster {
         /// The region of the destination.
         to: Region,
@@ -41,7 +41,7 @@ pub enum Command<'a, P, M> {
         /// The region of the source.
         from: Region,
     },
-    /// Composites a color with a region, as [`Raster::composite_color`] does.
+    /// Composites a color with each pixel of a region ([`Raster::composite_color`]).
     Color {
         /// The region.
         reg: Region,
@@ -50,7 +50,8 @@ pub enum Command<'a, P, M> {
         /// The operator.
         op: Op,
     },
-    /// Composites a region of another raster, as [`Raster::composite_raster`] does.
+    /// Composites a region of another raster, pixel by pixel, with a region
+    /// ([`Raster::composite_raster`]).
     Raster {
         /// The region of the destination.
         to: Region,
@@ -61,22 +62,22 @@ pub enum Command<'a, P, M> {
         /// The operator.
         op: Op,
     },
-    /// Composites a color through a region of a raster of mattes, as [`Raster::composite_matte`]
-    /// does.
+    /// Composites a color with each pixel of a region, through its matte of a region of a raster of
+    /// mattes ([`Raster::composite_matte`]).
     Matte {
         /// The region of the destination.
         to: Region,
         /// The coverage masks.
         src: &'a Raster<M>,
-        /// The region of the source.
+        /// The region of the coverage masks.
         from: Region,
         /// The color.
         clr: P,
         /// The operator.
         op: Op,
     },
-    /// Composites a region of another raster through a region of a raster of mattes, as
-    /// [`Raster::composite_raster_matte`] does.
+    /// Composites a region of another raster, pixel by pixel, with a region, each through its matte
+    /// of a region of a raster of mattes ([`Raster::composite_raster_matte`]).
     RasterMatte {
         /// The region of the destination.
         to: Region,
@@ -91,8 +92,8 @@ pub enum Command<'a, P, M> {
         /// The operator.
         op: Op,
     },
-    /// Composites a region of another raster at one opacity, as [`Raster::composite_raster_alpha`]
-    /// does.
+    /// Composites a region of another raster, pixel by pixel, with a region, at one opacity
+    /// ([`Raster::composite_raster_alpha`]).
     RasterAlpha {
         /// The region of the destination.
         to: Region,

@@ -34,7 +34,7 @@ mod window;
 /// ```rust
 /// let mut page = Raster::with_color(alloc, 64, 48, Rgba8p::new(255, 255, 255, 255))?;
 /// page.copy_color(Region::new(-8, 40, 16, 16), Rgba8p::new(255, 0, 0, 255));
-/// page.composite_color(
+/// page.composite_color(Region::new(0, 0, 32, 48), Rgba8p::new(0, 0, 64, 64), SrcOver);
 /// ```
 #[derive(Drop)]
 pub struct Raster<P> {
@@ -70,7 +70,6 @@ impl<P: Pixel> Raster<P> {
     /// let page = Raster::<Rgba8p>::with_clear(alloc, 64, 48)?;
     /// let size = (page.width(), page.height()); // (64, 48)
     /// let all = page.region(); // Region::new(0, 0, 64, 48)
-    /// let part = page.intersection(Region::new(60, 40, 9, 9)); // Region::new(60, 40, 4, 8)
     /// ```
     pub fn with_clear(alloc: Global, width: u32, height: u32) -> Result<Raster<P>, RasterFault>
         ensures ok { IfOk result (λ r. (r.width ≡ width) × (r.height ≡ height)
@@ -133,7 +132,6 @@ impl<P: Pixel> Raster<P> {
     /// let page = Raster::<Rgba8p>::with_clear(alloc, 64, 48)?;
     /// let size = (page.width(), page.height()); // (64, 48)
     /// let all = page.region(); // Region::new(0, 0, 64, 48)
-    /// let part = page.intersection(Region::new(60, 40, 9, 9)); // Region::new(60, 40, 4, 8)
     /// ```
     pub fn width(&self) -> u32
         ensures value { result ≡ self.now.width }
@@ -159,7 +157,6 @@ impl<P: Pixel> Raster<P> {
     /// let page = Raster::<Rgba8p>::with_clear(alloc, 64, 48)?;
     /// let size = (page.width(), page.height()); // (64, 48)
     /// let all = page.region(); // Region::new(0, 0, 64, 48)
-    /// let part = page.intersection(Region::new(60, 40, 9, 9)); // Region::new(60, 40, 4, 8)
     /// ```
     pub fn region(&self) -> Region
         ensures { result ≡ region_of self.now }
@@ -341,7 +338,8 @@ impl<P> Raster<P> {
         if row.len() == 0 { None } else { Some(row) }
     }
 
-    /// Returns the pixels of [`Raster::row_mut`], or an empty slice where there are none.
+    /// Returns the pixels of `reg` in row `y` of the raster as a mutable slice, which is empty
+    /// where there are none. Any `y` is allowed.
     fn row_part_mut(&mut self, y: i32, reg: Region) -> &mut [P]
         ensures* lends { sem 𝓛 (Lends (the_row P.row) (Array P.row 0) self.entry result
             (with_run self.old (row_start self.old.width (clipped self.old reg) y))) }

@@ -49,7 +49,6 @@ impl Region {
     /// let window = Region::new(-3, 2, 10, 5);
     /// let first = (window.left(), window.top()); // (-3, 2)
     /// let after = (window.right(), window.bottom()); // (7, 7), the first point that lies beyond
-    /// let size = (window.width(), window.height()); // (10, 5)
     /// ```
     pub fn new(x: i32, y: i32, width: u32, height: u32) -> Region
         requires wide { width ≤ limit }
@@ -125,7 +124,6 @@ impl Region {
     /// let window = Region::new(-3, 2, 10, 5);
     /// let first = (window.left(), window.top()); // (-3, 2)
     /// let after = (window.right(), window.bottom()); // (7, 7), the first point that lies beyond
-    /// let size = (window.width(), window.height()); // (10, 5)
     /// ```
     pub fn right(self) -> i32
         ensures { result ≡ right self }

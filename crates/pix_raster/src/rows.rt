@@ -8,9 +8,13 @@ use std::ops::Range;
 /// An iterator over the rows of a clipped rectangle, from top to bottom, as slices.
 #[derive(Drop)]
 pub struct Rows<'a, P> {
+    /// The pixels from the start of the next row on.
     pub(crate) rest: &'a [P],
+    /// How many rows are left.
     pub(crate) left: usize,
+    /// The width of the raster.
     pub(crate) width: usize,
+    /// The columns of the rectangle.
     pub(crate) columns: Range<usize>,
 }
 
@@ -47,9 +51,13 @@ impl<'a, P> Iterator for Rows<'a, P> {
 /// An iterator over the rows of a clipped rectangle, from top to bottom, as mutable slices.
 #[derive(Drop)]
 pub struct RowsMut<'a, P> {
+    /// The pixels from the start of the next row on.
     pub(crate) rest: &'a mut [P],
+    /// How many rows are left.
     pub(crate) left: usize,
+    /// The width of the raster.
     pub(crate) width: usize,
+    /// The columns of the rectangle.
     pub(crate) columns: Range<usize>,
 }
 

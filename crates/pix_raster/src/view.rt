@@ -18,7 +18,7 @@ pub use draw::{Draw, ReadCommand, ReadDraw};
 pub use masked::{Source, blit_masked};
 pub use pix_el::rows::{Blit, Fill, MaskedBlit};
 pub use run::Commands;
-pub(crate) use run::OnWindow;
+pub(crate) use run::WindowCommand;
 
 /// The size of an image in points, and how many pixels its rows lie apart.
 #[derive(Clone, Copy, Debug, PartialEq, Eq)]
@@ -131,8 +131,8 @@ pub fn fill_window<D, F: Fill<D>>(pixels: &mut [D], window: Window, reg: Region,
 }
 
 /// Changes the region `to` of an image by the region `from` of a source. Each point is changed by
-/// the point that it is paired with, as in [`Raster::copy_raster`](crate::Raster::copy_raster). No
-/// other pixel changes.
+/// the point at its offset from the corners of both regions, where both regions have it and it lies
+/// in the image and in the source. No other pixel changes.
 ///
 /// Condition: both shapes are as the docs of their fields say. The rows of the image lie in
 /// `pixels`, and those of the source in `src`. The change suits both formats.
@@ -161,8 +161,10 @@ pub fn blit_region<D, S, B: Blit<D, S>>(
     blit_window(pixels, window, to, src, src_shape, from, change);
 }
 
-/// Changes the region `to` of a picture by the region `from` of a source, as [`blit_region`] does,
-/// in those points that lie in the window. No other pixel changes.
+/// Changes the region `to` of a picture by the region `from` of a source, in those points that lie
+/// in the window. Each point is changed by the point at its offset from the corners of both
+/// regions, where both regions have it and it lies in the picture and in the source. No other pixel
+/// changes.
 ///
 /// Condition: `window` and both shapes are as the docs of their fields say. The rows of the window
 /// lie in `pixels`, and those of the source in `src`. The change suits both formats.

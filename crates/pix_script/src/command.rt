@@ -44,12 +44,14 @@ pub(crate) enum Kind {
 /// Which commands the earlier lines have.
 #[derive(Clone, Copy)]
 pub(crate) struct Earlier {
+    /// Whether one makes the image.
     pub(crate) image: bool,
+    /// Whether one keeps a copy of the image.
     pub(crate) keep: bool,
 }
 
 impl Earlier {
-    /// Returns the same with one more line, of these words.
+    /// Returns which commands there are with one more line, of these words.
     pub(crate) fn with(self, words: &[&[u8]]) -> Earlier
         ensures { result ≡ earlier_with self (map (λ word. word.now) words.now) }
     {
@@ -85,8 +87,8 @@ impl Line {
         !is_clear || !self.clears()
     }
 
-    /// Returns the raster command that draws the same, where `kept` is the kept image. Returns
-    /// `None` where nothing is drawn.
+    /// Returns the raster command that draws what this one draws, where `kept` is the kept image.
+    /// Returns `None` where nothing is drawn.
     pub(crate) fn drawing<'a>(
         &self,
         kept: &'a Raster<Rgba8p>,

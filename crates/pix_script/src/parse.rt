@@ -45,7 +45,11 @@ pub(crate) fn parse(words: &[&[u8]], earlier: Earlier) -> Result<Option<Line>, P
     }
 }
 
-/// Returns the same for a line's first word and those after it.
+/// Returns the command of a line, given its first word and those after it, or `None` for a comment.
+///
+/// # Errors
+///
+/// The line's problem.
 #[tactic(auto, unfolding(crate::specs::Commands::problem_of, crate::specs::Commands::meaning_of))]
 fn parse_words(name: &[u8], arguments: &[&[u8]], earlier: Earlier) -> Result<Option<Line>, Problem>
     ensures { let all = name.now ∷ map (λ word. word.now) arguments.now in

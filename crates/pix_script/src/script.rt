@@ -109,7 +109,7 @@ fn render(alloc: Global, commands: &[Line]) -> Result<Vec<u8>, PaintFault>
     }
 }
 
-/// Renders the same, given the first command and the others.
+/// Renders commands, given the first, which makes the image, and the others.
 fn render_from(alloc: Global, first: Line, others: &[Line]) -> Result<Vec<u8>, PaintFault>
     ensures text { IfOk result (λ text. text.items ≡ text_of (first ∷ others.now)) }
     ensures memory { IfErr result (λ fault. fault ≡ PaintFault.OutOfMemory) }

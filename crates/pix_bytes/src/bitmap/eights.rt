@@ -12,7 +12,7 @@ ghost use Rattle.pix_bytes.specs.Recolored.{recolored, curved_at, colors_from, a
 ghost use Rattle.pix_bytes.specs.Recolored.{last_channels};
 ghost use Rattle.pix_bytes.specs.Rows.{IsEach};
 
-use crate::bitmap::fours::ends;
+use crate::bitmap::rgba_light::ends;
 use pix_chan::chan::Ch8;
 use std::simd::prelude::*;
 
@@ -104,9 +104,10 @@ fn entries<T: Table>(is_reversed: bool, size: usize, bytes: &[u8]) -> u8x32
     ])
 }
 
-/// Does what [`entries`] does, with a 255 after the colors of each pixel.
+/// Returns the entries for the colors of eight pixels, with a 255 after those of each. Condition: a
+/// pixel has `size` bytes, at least three.
 ///
-/// LLVM would insert each 255 alone; the zeros cost it nothing.
+/// The 255s are put over zeros, which cost LLVM nothing: it would insert each 255 alone.
 #[inline(always)]
 fn opaque<T: Table>(is_reversed: bool, size: usize, bytes: &[u8]) -> u8x32
     requires colors { 3 ≤ size }
@@ -243,7 +244,8 @@ pub(crate) fn map_eights<T: Table>(
     count / 8 * 8
 }
 
-/// Does what [`map_eights`] does for pixels of three bytes, which become opaque ones.
+/// Writes as many of the first `count` pixels of three bytes as go in eights as opaque ones, and
+/// maps their colors by the table. Returns their number.
 ///
 /// Condition: there are `count` of both.
 #[inline(always)]

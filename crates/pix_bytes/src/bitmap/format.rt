@@ -13,8 +13,11 @@ use Depth::{Linear8, Linear16, Srgb8};
 /// How a channel is stored: of 8 bits, encoded by the sRGB curve or linear, or linear of 16 bits.
 #[derive(Clone, Copy)]
 pub(crate) enum Depth {
+    /// In 8 bits, encoded by the sRGB curve.
     Srgb8,
+    /// In 8 bits, linear.
     Linear8,
+    /// In 16 bits, linear.
     Linear16,
 }
 

@@ -13,7 +13,7 @@ ghost use Rattle.pix_bytes.specs.Shown.{shown, shown_places, straight_light};
 ghost use Rattle.pix_bytes.specs.BitmapFormats.{samples};
 
 use pix_chan::chan::Ch16;
-use pix_chan::quotients::lanes::{are_opaque, are_repeated, divided_by_any, divided_by_bytes};
+use pix_chan::quotients16::lanes::{are_opaque, are_repeated, divided_by_any, divided_by_bytes};
 use std::simd::prelude::*;
 
 /// Returns the channels of four pixels. Condition: they have thirty-two bytes.

@@ -2,11 +2,11 @@
 ghost use Rattle.std.specs.Prelude.{◌≡◌, ◌≤◌, ◌+◌, take, true};
 ghost use Rattle.pix_el.specs.Color.{rgba_of, of_rgba};
 ghost use Rattle.pix_el.specs.Model.{row};
-ghost use Rattle.pix_bytes.specs.Four.{as_list};
+ghost use Rattle.pix_bytes.specs.FourChannels.{as_list};
 ghost use Rattle.pix_bytes.specs.Models.{model_of, four_of};
 ghost use Rattle.pix_bytes.specs.BitmapFormats.{into_rgb, out_of_rgb};
 
-use crate::bitmap::four::Four;
+use crate::bitmap::four_channels::FourChannels;
 use pix_chan::chan::{Ch8, Ch16, Channel, Linear, Straight};
 use pix_color::bgr::Bgr;
 use pix_color::cmy::Cmy;
@@ -23,15 +23,25 @@ use pix_el::model::ColorModel;
 /// The name of a color model.
 #[derive(Clone, Copy)]
 pub(crate) enum ModelName {
+    /// Red, green and blue.
     Rgb,
+    /// Blue, green and red.
     Bgr,
+    /// Cyan, magenta and yellow.
     Cmy,
+    /// A gray value.
     Gray,
+    /// Hue, saturation and value.
     Hsv,
+    /// Hue, saturation and lightness.
     Hsl,
+    /// Hue, whiteness and blackness.
     Hwb,
+    /// Luma and the blue and red differences.
     YCbCr,
+    /// The tristimulus values x, y and z.
     Xyz,
+    /// An alpha and no color.
     Matte,
 }
 
@@ -83,7 +93,7 @@ impl ModelName {
 /// A channel type whose colors every model knows.
 pub(crate) trait Colored: Channel {
     /// Returns red, green, blue and alpha of a pixel of the model `M`.
-    fn rgba_of<M: ColorModel>(pixel: Four<Self>) -> Four<Self>
+    fn rgba_of<M: ColorModel>(pixel: FourChannels<Self>) -> FourChannels<Self>
         ensures { as_list Self.number result ≡
             rgba_of M.to_rgb M.ALPHA Self.max (as_list Self.number pixel) };
 
@@ -91,7 +101,7 @@ pub(crate) trait Colored: Channel {
     /// Other channels are the maximum.
     ///
     /// Condition: the model has as many channels.
-    fn two_of_rgba<M: ColorModel>(rgba: Four<Self>) -> Four<Self>
+    fn two_of_rgba<M: ColorModel>(rgba: FourChannels<Self>) -> FourChannels<Self>
         requires { 2 ≤ M.ALPHA + 1 }
         ensures { as_list Self.number result ≡ four_of Self.max (take 2
             (of_rgba M.of_rgb Self.max (as_list Self.number rgba))) };
@@ -100,7 +110,7 @@ pub(crate) trait Colored: Channel {
     /// alpha. Other channels are the maximum.
     ///
     /// Condition: the model has as many channels.
-    fn four_of_rgba<M: ColorModel>(rgba: Four<Self>) -> Four<Self>
+    fn four_of_rgba<M: ColorModel>(rgba: FourChannels<Self>) -> FourChannels<Self>
         requires { 4 ≤ M.ALPHA + 1 }
         ensures { as_list Self.number result ≡ four_of Self.max (take 4
             (of_rgba M.of_rgb Self.max (as_list Self.number rgba))) };
@@ -108,7 +118,7 @@ pub(crate) trait Colored: Channel {
 
 impl Colored for Ch8 {
     #[inline(always)]
-    fn rgba_of<M: ColorModel>(pixel: Four<Ch8>) -> Four<Ch8>
+    fn rgba_of<M: ColorModel>(pixel: FourChannels<Ch8>) -> FourChannels<Ch8>
         ensures { as_list ⟦<Ch8 as Channel>⟧.number result ≡
             rgba_of M.to_rgb M.ALPHA 255 (as_list ⟦<Ch8 as Channel>⟧.number pixel) }
     {
@@ -116,7 +126,7 @@ impl Colored for Ch8 {
     }
 
     #[inline(always)]
-    fn two_of_rgba<M: ColorModel>(rgba: Four<Ch8>) -> Four<Ch8>
+    fn two_of_rgba<M: ColorModel>(rgba: FourChannels<Ch8>) -> FourChannels<Ch8>
         requires { 2 ≤ M.ALPHA + 1 }
         ensures { as_list ⟦<Ch8 as Channel>⟧.number result ≡ four_of 255 (take 2
             (of_rgba M.of_rgb 255 (as_list ⟦<Ch8 as Channel>⟧.number rgba))) }
@@ -125,7 +135,7 @@ impl Colored for Ch8 {
     }
 
     #[inline(always)]
-    fn four_of_rgba<M: ColorModel>(rgba: Four<Ch8>) -> Four<Ch8>
+    fn four_of_rgba<M: ColorModel>(rgba: FourChannels<Ch8>) -> FourChannels<Ch8>
         requires { 4 ≤ M.ALPHA + 1 }
         ensures { as_list ⟦<Ch8 as Channel>⟧.number result ≡ four_of 255 (take 4
             (of_rgba M.of_rgb 255 (as_list ⟦<Ch8 as Channel>⟧.number rgba))) }
@@ -136,7 +146,7 @@ impl Colored for Ch8 {
 
 impl Colored for Ch16 {
     #[inline(always)]
-    fn rgba_of<M: ColorModel>(pixel: Four<Ch16>) -> Four<Ch16>
+    fn rgba_of<M: ColorModel>(pixel: FourChannels<Ch16>) -> FourChannels<Ch16>
         ensures { as_list ⟦<Ch16 as Channel>⟧.number result ≡
             rgba_of M.to_rgb M.ALPHA 65535 (as_list ⟦<Ch16 as Channel>⟧.number pixel) }
     {
@@ -144,7 +154,7 @@ impl Colored for Ch16 {
     }
 
     #[inline(always)]
-    fn two_of_rgba<M: ColorModel>(rgba: Four<Ch16>) -> Four<Ch16>
+    fn two_of_rgba<M: ColorModel>(rgba: FourChannels<Ch16>) -> FourChannels<Ch16>
         requires { 2 ≤ M.ALPHA + 1 }
         ensures { as_list ⟦<Ch16 as Channel>⟧.number result ≡ four_of 65535 (take 2
             (of_rgba M.of_rgb 65535 (as_list ⟦<Ch16 as Channel>⟧.number rgba))) }
@@ -153,7 +163,7 @@ impl Colored for Ch16 {
     }
 
     #[inline(always)]
-    fn four_of_rgba<M: ColorModel>(rgba: Four<Ch16>) -> Four<Ch16>
+    fn four_of_rgba<M: ColorModel>(rgba: FourChannels<Ch16>) -> FourChannels<Ch16>
         requires { 4 ≤ M.ALPHA + 1 }
         ensures { as_list ⟦<Ch16 as Channel>⟧.number result ≡ four_of 65535 (take 4
             (of_rgba M.of_rgb 65535 (as_list ⟦<Ch16 as Channel>⟧.number rgba))) }
@@ -164,7 +174,7 @@ impl Colored for Ch16 {
 
 /// Returns red, green, blue and alpha of a pixel of the model.
 #[inline(always)]
-pub(crate) fn into_rgb<C: Colored>(model: ModelName, pixel: Four<C>) -> Four<C>
+pub(crate) fn into_rgb<C: Colored>(model: ModelName, pixel: FourChannels<C>) -> FourChannels<C>
     ensures { as_list C.number result ≡ rgba_of (into_rgb (model_of model))
         (row (model_of model)).alpha C.max (as_list C.number pixel) }
 {
@@ -185,7 +195,7 @@ pub(crate) fn into_rgb<C: Colored>(model: ModelName, pixel: Four<C>) -> Four<C>
 /// Returns the pixel of the model that has this red, green, blue and alpha; a channel that the
 /// model lacks is the maximum.
 #[inline(always)]
-pub(crate) fn out_of_rgb<C: Colored>(model: ModelName, rgba: Four<C>) -> Four<C>
+pub(crate) fn out_of_rgb<C: Colored>(model: ModelName, rgba: FourChannels<C>) -> FourChannels<C>
     ensures { as_list C.number result ≡ four_of C.max
         (of_rgba (out_of_rgb (model_of model)) C.max (as_list C.number rgba)) }
 {
@@ -199,7 +209,7 @@ pub(crate) fn out_of_rgb<C: Colored>(model: ModelName, rgba: Four<C>) -> Four<C>
         ModelName::Hwb => C::four_of_rgba::<Hwb>(rgba),
         ModelName::YCbCr => C::four_of_rgba::<YCbCr>(rgba),
         ModelName::Xyz => C::four_of_rgba::<Xyz>(rgba),
-        ModelName::Matte => Four {
+        ModelName::Matte => FourChannels {
             one: rgba.four,
             two: C::MAX,
             three: C::MAX,
@@ -209,14 +219,14 @@ pub(crate) fn out_of_rgb<C: Colored>(model: ModelName, rgba: Four<C>) -> Four<C>
 }
 
 /// Returns red, green, blue and alpha of a pixel of the format `P`.
-fn rgba_of<P: Pixel>(pixel: Four<P::Chan>) -> Four<P::Chan>
+fn rgba_of<P: Pixel>(pixel: FourChannels<P::Chan>) -> FourChannels<P::Chan>
     requires { P.layout.count ≡ 4 }
     ensures { as_list P.Chan.number result ≡
         rgba_of P.Model.to_rgb P.Model.ALPHA P.Chan.max (as_list P.Chan.number pixel) }
 {
     let pixel = P::from_four(pixel.one, pixel.two, pixel.three, pixel.four);
     let (one, two, three, four) = <P::Model as ColorModel>::into_four::<P>(pixel);
-    Four {
+    FourChannels {
         one,
         two,
         three,
@@ -228,13 +238,13 @@ fn rgba_of<P: Pixel>(pixel: Four<P::Chan>) -> Four<P::Chan>
 /// lacks is the maximum.
 ///
 /// Condition: the format has no more channels than its model.
-fn of_rgba<P: Pixel>(rgba: Four<P::Chan>) -> Four<P::Chan>
+fn of_rgba<P: Pixel>(rgba: FourChannels<P::Chan>) -> FourChannels<P::Chan>
     requires { P.layout.count ≤ P.Model.ALPHA + 1 }
     ensures { as_list P.Chan.number result ≡ four_of P.Chan.max (take P.layout.count
         (of_rgba P.Model.of_rgb P.Chan.max (as_list P.Chan.number rgba))) }
 {
     let pixel = <P::Model as ColorModel>::from_four::<P>(rgba.one, rgba.two, rgba.three, rgba.four);
-    Four {
+    FourChannels {
         one: pixel.get(0),
         two: pixel.get(1),
         three: pixel.get(2),

@@ -6,19 +6,19 @@ ghost use Rattle.pix_el.specs.Conversion.{Format, at_depth, of_depth, reencoded,
 ghost use Rattle.pix_el.specs.Light.{mode_changed, in_light, as_srgb};
 ghost use Rattle.pix_el.specs.Model.{row};
 ghost use Rattle.pix_bytes.specs.Bitmap.{into_light, out_of_light};
-ghost use Rattle.pix_bytes.specs.Four.{as_list};
+ghost use Rattle.pix_bytes.specs.FourChannels.{as_list};
 ghost use Rattle.pix_bytes.specs.Models.{model_of};
 ghost use Rattle.pix_bytes.specs.Rows.{IsEach, IsSame, IsStep, alpha_mode_of, format_at};
 ghost use Rattle.pix_bytes.specs.BitmapFormats.{sample_size};
 
 use crate::bitmap::format::FormatParts;
-use crate::bitmap::four::Four;
-use crate::bitmap::fours::decode_fours;
+use crate::bitmap::four_channels::FourChannels;
 use crate::bitmap::levels::encode_fours;
 use crate::bitmap::model::ModelName::{Bgr, Rgb};
 use crate::bitmap::model::{Colored, into_rgb, out_of_rgb};
+use crate::bitmap::rgba_light::decode_fours;
 use pix_chan::chan::{Alpha, Ch8, Ch16, Channel, Gamma, Linear, Premultiplied};
-use pix_chan::quotients::quotient;
+use pix_chan::quotients16::quotient;
 use std::marker::PhantomData;
 
 /// The parts of two formats that decide how a pixel is converted from one to the other within a
@@ -156,13 +156,13 @@ fn depth_or_max<C: Channel, D: Channel>(count: usize, ch: usize, c: C) -> D
 
 /// Returns a pixel at another depth. A channel that the other format lacks is the maximum.
 #[inline(always)]
-fn rescaled<C: Channel, D: Channel>(count: usize, pixel: Four<C>) -> Four<D>
+fn rescaled<C: Channel, D: Channel>(count: usize, pixel: FourChannels<C>) -> FourChannels<D>
     requires few { count ≤ 4 }
     ensures { (layout to : Layout) → layout.max ≡ C.max → to.max ≡ D.max → to.count ≡ count
         → (ch : ℕ) → channel D.max (as_list D.number result) ch
         ≡ channel D.max (of_depth layout to (as_list C.number pixel)) ch }
 {
-    Four {
+    FourChannels {
         one: depth_or_max::<C, D>(count, 0, pixel.one),
         two: depth_or_max::<C, D>(count, 1, pixel.two),
         three: depth_or_max::<C, D>(count, 2, pixel.three),
@@ -172,7 +172,7 @@ fn rescaled<C: Channel, D: Channel>(count: usize, pixel: Four<C>) -> Four<D>
 
 /// Converts a pixel to another format of the same color model.
 #[inline(always)]
-fn within<C, D, G, H>(step: Step, pixel: Four<C>) -> Four<D>
+fn within<C, D, G, H>(step: Step, pixel: FourChannels<C>) -> FourChannels<D>
 where
     C: Channel,
     D: Channel,
@@ -186,7 +186,7 @@ where
 {
     let deep = rescaled::<C, D>(step.count, pixel);
     let alpha = deep.at(step.end);
-    Four {
+    FourChannels {
         one: channel_of::<D, G, H>(step, 0, deep.at(0), alpha),
         two: channel_of::<D, G, H>(step, 1, deep.at(1), alpha),
         three: channel_of::<D, G, H>(step, 2, deep.at(2), alpha),
@@ -200,7 +200,7 @@ pub(crate) trait PixelConversion<C: Channel, D: Channel> {
     ghost makes: { Format → Format → List ℕ → List ℕ };
 
     /// Returns the pixel in the other format. Condition: that has no more channels than its model.
-    fn go(&self, from: FormatParts, to: FormatParts, pixel: Four<C>) -> Four<D>
+    fn go(&self, from: FormatParts, to: FormatParts, pixel: FourChannels<C>) -> FourChannels<D>
         requires few { to.count ≤ (row (model_of to.model)).alpha + 1 }
         ensures { (p : List ℕ) → IsSame C.max (as_list C.number pixel) p
             → take to.count (as_list D.number result)
@@ -210,7 +210,7 @@ pub(crate) trait PixelConversion<C: Channel, D: Channel> {
     /// their number.
     ///
     /// Condition: there are `count` in both.
-    fn go_ahead(
+    fn convert_several(
         &self,
         from: FormatParts,
         to: FormatParts,
@@ -248,7 +248,7 @@ impl<C: Colored, D: Colored, G: Gamma<D>, H: Gamma<D>> PixelConversion<C, D> for
     ghost makes = { λ format to pixel. converted format G.mode to H.mode pixel };
 
     #[inline(always)]
-    fn go(&self, from: FormatParts, to: FormatParts, pixel: Four<C>) -> Four<D>
+    fn go(&self, from: FormatParts, to: FormatParts, pixel: FourChannels<C>) -> FourChannels<D>
         requires few { to.count ≤ (row (model_of to.model)).alpha + 1 }
         ensures { (p : List ℕ) → IsSame C.max (as_list C.number pixel) p
             → take to.count (as_list D.number result) ≡ converted (format_at C.max from) G.mode
@@ -264,7 +264,7 @@ impl<C: Colored, D: Colored, G: Gamma<D>, H: Gamma<D>> PixelConversion<C, D> for
     }
 
     #[inline(always)]
-    fn go_ahead(
+    fn convert_several(
         &self,
         _from: FormatParts,
         _to: FormatParts,
@@ -282,7 +282,7 @@ pub(crate) struct IntoLight;
 /// Decodes a pixel into light within its model. A channel that the format in light lacks is the
 /// maximum.
 #[inline(always)]
-fn decoded(step: Step, pixel: Four<Ch8>) -> Four<Ch16>
+fn decoded(step: Step, pixel: FourChannels<Ch8>) -> FourChannels<Ch16>
     requires few { step.count ≤ 4 }
     ensures { (format to : Format) → IsStep format to 255 65535 step.count step.first step.end
         (alpha_mode_of step.is_premultiplied) (alpha_mode_of step.to_premultiplied) → (ch : ℕ)
@@ -290,7 +290,7 @@ fn decoded(step: Step, pixel: Four<Ch8>) -> Four<Ch16>
         ≡ channel 65535 (in_light format to (as_list ⟦<Ch8 as Channel>⟧.number pixel)) ch }
 {
     let alpha = at_depth(pixel.at(step.end));
-    Four {
+    FourChannels {
         one: channel_in_light(step, 0, pixel.one, alpha),
         two: channel_in_light(step, 1, pixel.two, alpha),
         three: channel_in_light(step, 2, pixel.three, alpha),
@@ -321,7 +321,7 @@ impl PixelConversion<Ch8, Ch16> for IntoLight {
     ghost makes = { into_light };
 
     #[inline(always)]
-    fn go(&self, from: FormatParts, to: FormatParts, pixel: Four<Ch8>) -> Four<Ch16>
+    fn go(&self, from: FormatParts, to: FormatParts, pixel: FourChannels<Ch8>) -> FourChannels<Ch16>
         requires few { to.count ≤ (row (model_of to.model)).alpha + 1 }
         ensures { (p : List ℕ) → IsSame 255 (as_list ⟦<Ch8 as Channel>⟧.number pixel) p
             → take to.count (as_list ⟦<Ch16 as Channel>⟧.number result)
@@ -338,7 +338,7 @@ impl PixelConversion<Ch8, Ch16> for IntoLight {
     }
 
     #[inline(always)]
-    fn go_ahead(
+    fn convert_several(
         &self,
         from: FormatParts,
         to: FormatParts,
@@ -362,7 +362,8 @@ impl PixelConversion<Ch8, Ch16> for IntoLight {
 /// The conversion of a linear pixel of 16 bits to sRGB.
 pub(crate) struct OutOfLight;
 
-/// Does what [`mode_changed`] does, with the quotient of channels of 16 bits.
+/// Returns a linear color channel of 16 bits at an alpha, from one alpha mode to another. Where the
+/// alpha comes from eight bits, it multiplies instead of dividing.
 #[inline(always)]
 fn straightened(from: bool, to: bool, c: Ch16, alpha: Ch16) -> Ch16
     ensures { result.value ≡ mode_changed 65535 (alpha_mode_of from) (alpha_mode_of to)
@@ -377,7 +378,7 @@ fn straightened(from: bool, to: bool, c: Ch16, alpha: Ch16) -> Ch16
 
 /// Encodes a pixel of light as sRGB within its model.
 #[inline(always)]
-fn encoded(step: Step, pixel: Four<Ch16>) -> Four<Ch8>
+fn encoded(step: Step, pixel: FourChannels<Ch16>) -> FourChannels<Ch8>
     requires few { step.count ≤ 4 }
     ensures { (format to : Format) → IsStep format to 65535 255 step.count step.first step.end
         (alpha_mode_of step.is_premultiplied) (alpha_mode_of step.to_premultiplied)
@@ -385,7 +386,7 @@ fn encoded(step: Step, pixel: Four<Ch16>) -> Four<Ch8>
         ≡ as_srgb format to (as_list ⟦<Ch16 as Channel>⟧.number pixel) }
 {
     let alpha = pixel.at(step.end);
-    Four {
+    FourChannels {
         one: channel_as_srgb(step, 0, pixel.one, alpha),
         two: channel_as_srgb(step, 1, pixel.two, alpha),
         three: channel_as_srgb(step, 2, pixel.three, alpha),
@@ -412,7 +413,7 @@ impl PixelConversion<Ch16, Ch8> for OutOfLight {
     ghost makes = { out_of_light };
 
     #[inline(always)]
-    fn go(&self, from: FormatParts, to: FormatParts, pixel: Four<Ch16>) -> Four<Ch8>
+    fn go(&self, from: FormatParts, to: FormatParts, pixel: FourChannels<Ch16>) -> FourChannels<Ch8>
         requires few { to.count ≤ (row (model_of to.model)).alpha + 1 }
         ensures { (p : List ℕ) → IsSame 65535 (as_list ⟦<Ch16 as Channel>⟧.number pixel) p
             → take to.count (as_list ⟦<Ch8 as Channel>⟧.number result)
@@ -429,7 +430,7 @@ impl PixelConversion<Ch16, Ch8> for OutOfLight {
     }
 
     #[inline(always)]
-    fn go_ahead(
+    fn convert_several(
         &self,
         from: FormatParts,
         to: FormatParts,

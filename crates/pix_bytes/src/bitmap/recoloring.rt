@@ -3,7 +3,7 @@ ghost use Rattle.std.specs.Prelude.{◌≡◌, ◌≤◌, ◌+◌, ◌*◌, ℕ,
 ghost use Rattle.pix_chan.specs.Modes as modes;
 ghost use Rattle.pix_el.specs.Conversion.{converted};
 ghost use Rattle.pix_el.specs.Model.{row};
-ghost use Rattle.pix_bytes.specs.Four.{as_list};
+ghost use Rattle.pix_bytes.specs.FourChannels.{as_list};
 ghost use Rattle.pix_bytes.specs.Models.{model_of};
 ghost use Rattle.pix_bytes.specs.Recolored.{IsRecolored, IsGrayRecolored, model_in_order};
 ghost use Rattle.pix_bytes.specs.Rows.{IsEach, IsSame, format_at};
@@ -11,7 +11,7 @@ ghost use Rattle.pix_bytes.specs.BitmapFormats.{sample_size};
 
 use crate::bitmap::eights::{Decoded, Encoded, Table, map_eights, map_eights_opaque};
 use crate::bitmap::format::FormatParts;
-use crate::bitmap::four::Four;
+use crate::bitmap::four_channels::FourChannels;
 use crate::bitmap::grays::map_grays;
 use crate::bitmap::model::ModelName::{self, Bgr, Gray, Rgb};
 use crate::bitmap::pixel_conversion::{Converted, PixelConversion};
@@ -86,7 +86,8 @@ fn map_ahead<T: Table>(
     }
 }
 
-/// Does what [`map_ahead`] does for gray pixels without an alpha, but one by one.
+/// Writes the first `count` gray pixels without an alpha as opaque ones of four bytes, and maps
+/// their colors by the table. Returns their number, which is 0 where the formats don't fit.
 ///
 /// Condition: there are `count` in both.
 fn map_grays_ahead<T: Table>(
@@ -121,7 +122,7 @@ impl PixelConversion<Ch8, Ch8> for IntoLinear {
     ghost makes = { λ format to pixel. converted format modes.Srgb to modes.Linear pixel };
 
     #[inline(always)]
-    fn go(&self, from: FormatParts, to: FormatParts, pixel: Four<Ch8>) -> Four<Ch8>
+    fn go(&self, from: FormatParts, to: FormatParts, pixel: FourChannels<Ch8>) -> FourChannels<Ch8>
         requires few { to.count ≤ (row (model_of to.model)).alpha + 1 }
         ensures { (p : List ℕ) → IsSame 255 (as_list ⟦<Ch8 as Channel>⟧.number pixel) p
             → take to.count (as_list ⟦<Ch8 as Channel>⟧.number result)
@@ -131,7 +132,7 @@ impl PixelConversion<Ch8, Ch8> for IntoLinear {
     }
 
     #[inline(always)]
-    fn go_ahead(
+    fn convert_several(
         &self,
         from: FormatParts,
         to: FormatParts,
@@ -153,7 +154,7 @@ impl PixelConversion<Ch8, Ch8> for OutOfLinear {
     ghost makes = { λ format to pixel. converted format modes.Linear to modes.Srgb pixel };
 
     #[inline(always)]
-    fn go(&self, from: FormatParts, to: FormatParts, pixel: Four<Ch8>) -> Four<Ch8>
+    fn go(&self, from: FormatParts, to: FormatParts, pixel: FourChannels<Ch8>) -> FourChannels<Ch8>
         requires few { to.count ≤ (row (model_of to.model)).alpha + 1 }
         ensures { (p : List ℕ) → IsSame 255 (as_list ⟦<Ch8 as Channel>⟧.number pixel) p
             → take to.count (as_list ⟦<Ch8 as Channel>⟧.number result)
@@ -163,7 +164,7 @@ impl PixelConversion<Ch8, Ch8> for OutOfLinear {
     }
 
     #[inline(always)]
-    fn go_ahead(
+    fn convert_several(
         &self,
         from: FormatParts,
         to: FormatParts,

@@ -8,7 +8,7 @@ ghost use Rattle.pix_bytes.specs.BitmapFormats.{sample_size, pixel_size};
 
 use crate::bitmap::format::Depth::{Linear8, Linear16, Srgb8};
 use crate::bitmap::format::FormatParts;
-use crate::bitmap::four::{read_four, write_four};
+use crate::bitmap::four_channels::{read_four, write_four};
 use crate::bitmap::model::ModelName::{Bgr, Gray, Rgb};
 use crate::bitmap::pixel_conversion::{Converted, IntoLight, OutOfLight, PixelConversion};
 use crate::bitmap::recoloring::{IntoLinear, OutOfLinear};
@@ -35,14 +35,14 @@ fn convert_row_pixels<C: Sample, D: Sample, W: PixelConversion<C, D>>(
 {
     let size = (from.count + from.spare) * C::size();
     let to_size = (to.count + to.spare) * D::size();
-    let first = conversion.go_ahead(from, to, src, dst, count);
+    let first = conversion.convert_several(from, to, src, dst, count);
     convert_each(conversion, from, to, size, to_size, src, dst, first, count);
 }
 
-/// Does what [`convert_row_pixels`] does from the pixel `first` on, where a pixel has `size` bytes,
-/// and `to_size` of them in the other format.
+/// Writes each pixel of `src`, from number `first` on, to the same index of `dst`, in the other
+/// format. A pixel has `size` bytes, and `to_size` of them in the other format.
 ///
-/// Condition: those before it are written.
+/// Condition: there are `count` in both, and those before `first` are written.
 #[inline(always)]
 fn convert_each<C: Sample, D: Sample, W: PixelConversion<C, D>>(
     conversion: &W,
@@ -76,7 +76,10 @@ fn convert_each<C: Sample, D: Sample, W: PixelConversion<C, D>>(
     }
 }
 
-/// Does what [`convert_row_pixels`] does, where both formats are known by other names.
+/// Writes each pixel of `src` to the same index of `dst`, in the other format. Its loop is compiled
+/// for `known` and `to_known`, whose parts the compiler knows.
+///
+/// Condition: there are `count` in both, and these two formats are `from` and `to`.
 #[inline(always)]
 fn convert_known<C: Sample, D: Sample, W: PixelConversion<C, D>>(
     conversion: &W,
@@ -99,8 +102,10 @@ fn convert_known<C: Sample, D: Sample, W: PixelConversion<C, D>>(
     convert_row_pixels(conversion, known, to_known, src, dst, count);
 }
 
-/// Does what [`convert_known`] does, with a loop of its own for each format that pictures mostly
-/// come in.
+/// Writes each pixel of `src` to the same index of `dst`, in the other format. There is a loop of
+/// its own for each format that pictures mostly come in, and one for all others.
+///
+/// Condition: there are `count` in both, and `to_known` is `to`.
 #[inline(always)]
 fn convert_from_usual<C: Sample, D: Sample, W: PixelConversion<C, D>>(
     conversion: &W,
@@ -139,8 +144,10 @@ fn convert_from_usual<C: Sample, D: Sample, W: PixelConversion<C, D>>(
     }
 }
 
-/// Does what [`convert_known`] does, with a loop of its own for each format that pictures mostly go
-/// to.
+/// Writes each pixel of `src` to the same index of `dst`, in the other format. There is a loop of
+/// its own for each format that pictures mostly go to, and one for all others.
+///
+/// Condition: there are `count` in both, and `from_known` is `from`.
 #[inline(always)]
 fn convert_to_usual<C: Sample, D: Sample, W: PixelConversion<C, D>>(
     conversion: &W,
@@ -179,8 +186,10 @@ fn convert_to_usual<C: Sample, D: Sample, W: PixelConversion<C, D>>(
     }
 }
 
-/// Does what [`convert_row_pixels`] does. Between the format of images that are painted and those
-/// that pictures mostly have, the loops know both.
+/// Writes each pixel of `src` to the same index of `dst`, in the other format. Between the format
+/// of images that are painted and those that pictures mostly have, the loops know both.
+///
+/// Condition: there are `count` in both.
 #[inline(always)]
 fn convert_painted<C: Sample, D: Sample, W: PixelConversion<C, D>>(
     conversion: &W,
@@ -206,8 +215,8 @@ fn convert_painted<C: Sample, D: Sample, W: PixelConversion<C, D>>(
 }
 
 /// Writes each pixel of `src` to the same index of `dst`, in the other format. Between sRGB of 8
-/// bits and channels of 16 bits it goes through light, and else it does what
-/// [`Pixel::convert`](pix_el::el::Pixel::convert) does.
+/// bits and channels of 16 bits it goes through light. Any other pixel is converted as by
+/// [`Pixel::convert`](pix_el::el::Pixel::convert).
 ///
 /// Condition: there are `count` in both.
 pub(crate) fn convert_row(
@@ -230,8 +239,9 @@ pub(crate) fn convert_row(
     }
 }
 
-/// Does what [`convert_row`] does for as many of the first `count` pixels of 8 bits as are
-/// converted several at once, and returns their number.
+/// Writes as many of the first `count` pixels of `src` as are converted several at once to the same
+/// index of `dst`, in the other format. Returns their number, which is 0 unless one format is sRGB
+/// and the other linear, both of 8 bits.
 ///
 /// Condition: there are `count` in both.
 pub(crate) fn convert_row_ahead(
@@ -247,13 +257,14 @@ pub(crate) fn convert_row_ahead(
     ensures each { IsConvertedBitmap (stored_of from) (stored_of to) result src.now dst.new }
 {
     match (from.depth, to.depth) {
-        (Srgb8, Linear8) => IntoLinear.go_ahead(from, to, src, dst, count),
-        (Linear8, Srgb8) => OutOfLinear.go_ahead(from, to, src, dst, count),
+        (Srgb8, Linear8) => IntoLinear.convert_several(from, to, src, dst, count),
+        (Linear8, Srgb8) => OutOfLinear.convert_several(from, to, src, dst, count),
         _ => 0,
     }
 }
 
-/// Does what [`convert_row`] does from sRGB of 8 bits.
+/// Writes each pixel of `src`, in sRGB of 8 bits, to the same index of `dst`, in the other format.
+/// To channels of 16 bits it goes through light.
 ///
 /// Condition: `from` has such channels, and there are `count` pixels in both.
 fn convert_srgb8(from: FormatParts, to: FormatParts, src: &[u8], dst: &mut [u8], count: usize)
@@ -274,7 +285,8 @@ fn convert_srgb8(from: FormatParts, to: FormatParts, src: &[u8], dst: &mut [u8],
     }
 }
 
-/// Does what [`convert_row`] does from linear channels of 8 bits.
+/// Writes each pixel of `src`, in linear channels of 8 bits, to the same index of `dst`, in the
+/// other format.
 ///
 /// Condition: `from` has such channels, and there are `count` pixels in both.
 fn convert_linear8(from: FormatParts, to: FormatParts, src: &[u8], dst: &mut [u8], count: usize)
@@ -298,7 +310,8 @@ fn convert_linear8(from: FormatParts, to: FormatParts, src: &[u8], dst: &mut [u8
     }
 }
 
-/// Does what [`convert_row`] does from channels of 16 bits.
+/// Writes each pixel of `src`, in linear channels of 16 bits, to the same index of `dst`, in the
+/// other format. To sRGB of 8 bits each color becomes the nearest level.
 ///
 /// Condition: `from` has such channels, and there are `count` pixels in both.
 fn convert_linear16(from: FormatParts, to: FormatParts, src: &[u8], dst: &mut [u8], count: usize)

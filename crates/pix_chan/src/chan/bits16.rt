@@ -11,8 +11,8 @@ ghost use Rattle.pix_chan.specs.Planes.{in_turn, both_in_turn, last_of_four, las
 ghost use Rattle.pix_chan.specs.Seal.{seal};
 
 use crate::chan::{Ch8, Channel, whole};
-use crate::quotients::lanes::unmultiplied;
-use crate::quotients::quotient;
+use crate::quotients16::lanes::unmultiplied;
+use crate::quotients16::quotient;
 use std::ops::{Add, Div, Mul, Sub};
 
 mod lanes;
@@ -237,7 +237,7 @@ impl Channel for Ch16 {
     }
 
     #[inline(always)]
-    fn less16(plane: [Ch16; 16]) -> [Ch16; 16]
+    fn complement16(plane: [Ch16; 16]) -> [Ch16; 16]
         ensures { map (λ x. x.value) result ≡ map (λ x. 65535 - x) (map (λ x. x.value) plane) }
     {
         let p = &plane[..];
@@ -274,7 +274,7 @@ impl Channel for Ch16 {
     }
 
     #[inline(always)]
-    fn less32(plane: [Ch16; 32]) -> [Ch16; 32]
+    fn complement32(plane: [Ch16; 32]) -> [Ch16; 32]
         ensures { map (λ x. x.value) result ≡ map (λ x. 65535 - x) (map (λ x. x.value) plane) }
     {
         let mut own = plane;

@@ -12,7 +12,7 @@ ghost use Rattle.pix_chan.specs.Seal.{seal};
 
 use crate::chan::bits8::lanes::{channels, units, unmultiplied};
 use crate::chan::{Ch16, Channel, whole};
-use crate::reciprocals::quotient;
+use crate::quotients8::quotient;
 use std::ops::{Add, Div, Mul, Sub};
 
 mod lanes;
@@ -243,14 +243,14 @@ impl Channel for Ch8 {
     }
 
     #[inline(always)]
-    fn less16(plane: [Ch8; 16]) -> [Ch8; 16]
+    fn complement16(plane: [Ch8; 16]) -> [Ch8; 16]
         ensures { map (λ x. x.value) result ≡ map (λ x. 255 - x) (map (λ x. x.value) plane) }
     {
         channels(!units(&plane))
     }
 
     #[inline(always)]
-    fn less32(plane: [Ch8; 32]) -> [Ch8; 32]
+    fn complement32(plane: [Ch8; 32]) -> [Ch8; 32]
         ensures { map (λ x. x.value) result ≡ map (λ x. 255 - x) (map (λ x. x.value) plane) }
     {
         pairs::channels(!pairs::units(&plane))

@@ -52,8 +52,6 @@ pub trait Alpha: Clone + Copy + Debug + Default + PartialEq {
 /// let light = Ch8::new(188).decode_srgb(); // 128
 /// let shown = light.encode_srgb(); // 188
 /// let same = <Srgb as Gamma<Ch8>>::to_linear(shown); // 128
-/// let stored = Premultiplied::encode(same, light); // 64
-/// let straight = Premultiplied::decode(stored, light); // 128
 /// ```
 pub trait Gamma<C: Channel>: Clone + Copy + Debug + Default + PartialEq {
     /// The mode as a row of the table of gamma modes.

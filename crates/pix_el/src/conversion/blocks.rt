@@ -10,14 +10,14 @@ ghost use Rattle.pix_chan.specs.Runs.{over};
 ghost use Rattle.pix_el.specs.Planes.{linear_four, premultiplied_four};
 ghost use Rattle.pix_el.specs.Conversion.{at_depth, converted};
 
+use crate::conversion::channelwise::convert_fours;
 use crate::conversion::depth::{deepen_blocks, deepens};
-use crate::conversion::fours::convert_fours;
 use crate::conversion::gray::{convert_grays, makes_gray};
 use crate::conversion::{at_depth, channel_at_depth};
 use crate::el::Pixel;
 use crate::model::ColorModel;
-use crate::planes::interleaved::premultiply_four;
 use crate::planes::is_interleaved;
+use crate::planes::rgba_x4::premultiply_four;
 use pix_chan::chan::{Alpha, Channel, Gamma, Linear, Premultiplied, Straight};
 use std::marker::PhantomData;
 

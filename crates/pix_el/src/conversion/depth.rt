@@ -7,7 +7,7 @@ ghost use Rattle.pix_chan.specs.Runs.{over};
 ghost use Rattle.pix_el.specs.Conversion.{at_depth, converted, of_depth};
 
 use crate::conversion::at_depth;
-use crate::conversion::fours::keeps_modes;
+use crate::conversion::channelwise::keeps_modes;
 use crate::el::Pixel;
 use crate::model::ColorModel;
 use crate::stored::Stored;

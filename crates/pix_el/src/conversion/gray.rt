@@ -7,7 +7,7 @@ ghost use Rattle.pix_chan.specs.Runs.{over};
 ghost use Rattle.pix_el.specs.Conversion.{converted};
 ghost use Rattle.pix_el.specs.Gray.{rgba_converted};
 
-use crate::conversion::fours::{is_plain, keeps_modes};
+use crate::conversion::channelwise::{is_plain, keeps_modes};
 use crate::conversion::{at_depth, reencoded_color};
 use crate::el::Pixel;
 use crate::model::ColorModel;

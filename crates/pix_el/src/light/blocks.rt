@@ -17,7 +17,7 @@ use crate::conversion::{at_depth, channel_at_depth};
 use crate::el::Pixel;
 use crate::light::{Transfer, mode_changed};
 use crate::model::ColorModel;
-use crate::planes::interleaved::{four_pixels, put_four_pixels};
+use crate::planes::rgba_x4::{four_pixels, put_four_pixels};
 use pix_chan::chan::{Alpha, Ch8, Ch16, Channel, Linear, Premultiplied, Straight};
 use std::marker::PhantomData;
 use std::simd::prelude::*;
@@ -199,7 +199,8 @@ fn four_changed<P: Pixel, D: Pixel>(p: &[P]) -> [P::Chan; 16]
     [a, b, c, d, e, f, g, h, i, j, k, l, m, n, o, q]
 }
 
-/// Does what [`four_changed`] does, and at once where the colors are the same in both alpha modes.
+/// Returns the channels of four linear pixels, with their colors in the alpha mode of `D`. Colors
+/// that are the same in both alpha modes are only copied.
 ///
 /// Condition: there are three colors and then an alpha.
 #[inline(always)]

@@ -11,7 +11,7 @@ use crate::filled::clear_row;
 use crate::planes::unchanged::{
     are_clear, empties_under_clear, keeps_all, keeps_under_clear, saves_products,
 };
-use crate::stored::{Coverage, Stored, see_channels};
+use crate::stored::{Coverage, Stored, establish_channels};
 use pix_ops::ops::Blend;
 
 /// A way to composite the pixels of a format by blocks of one size.
@@ -25,7 +25,7 @@ pub(crate) trait Block<P: Pixel> {
     /// How many pixels a block has.
     const SIZE: usize;
 
-    /// One less than that.
+    /// One less than [`SIZE`](Block::SIZE).
     ghost more: { ℕ };
 
     /// A block has a pixel.
@@ -134,7 +134,7 @@ pub(crate) fn color_blocks<O: Blend, P: Pixel, D: Stored<P>, B: Block<P>>(
 ///
 /// Condition: the format has an alpha channel, and both slices have `count` elements.
 #[inline(always)]
-pub(super) fn matte_blocks<O: Blend, P: Pixel, D: Stored<P>, M: Coverage<P::Chan>, B: Block<P>>(
+pub(super) fn matted_blocks<O: Blend, P: Pixel, D: Stored<P>, M: Coverage<P::Chan>, B: Block<P>>(
     dst: &mut [D],
     src: &[M],
     clr: &P,
@@ -155,9 +155,9 @@ pub(super) fn matte_blocks<O: Blend, P: Pixel, D: Stored<P>, M: Coverage<P::Chan
         let at = size * i;
         let (block, mattes) = (&mut dst[at..at + size], &src[at..at + size]);
         if keeps_all::<O, P::Chan>() {
-            see_channels::<P, D>(block);
+            establish_channels::<P, D>(block);
         } else if keeps_under_clear::<O, P::Chan>() && are_clear::<P::Chan, M>(mattes) {
-            see_channels::<P, D>(block);
+            establish_channels::<P, D>(block);
         } else if saves_products::<P>()
             && empties_under_clear::<O, P>()
             && are_clear::<P::Chan, M>(mattes)

@@ -7,14 +7,14 @@ ghost use Rattle.pix_el.specs.Planes.{coverage_of};
 ghost use Rattle.pix_el.specs.PixelComposite.{matted_composite};
 
 use crate::el::Pixel;
+use crate::planes::alpha_x16::AlphaX16;
 use crate::planes::block::{faded_blocks, masked_blocks};
-use crate::planes::eight::Eight;
-use crate::planes::four::Four;
-use crate::planes::half::HalfTwo;
-use crate::planes::interleaved::Interleaved;
-use crate::planes::one::One;
-use crate::planes::pair::Pair;
-use crate::planes::two::Two;
+use crate::planes::graya_x8::GrayaX8;
+use crate::planes::graya_x16::GrayaX16;
+use crate::planes::planes_x16::PlanesX16;
+use crate::planes::rgba_x4::RgbaX4;
+use crate::planes::rgba_x8::RgbaX8;
+use crate::planes::rgba_x16::RgbaX16;
 use crate::planes::{has_four, has_one, has_two, is_interleaved};
 use crate::stored::{Coverage, Stored};
 use pix_ops::ops::Blend;
@@ -24,7 +24,7 @@ use pix_ops::ops::Blend;
 ///
 /// Condition: the format has an alpha channel, and all three slices have `count` elements.
 #[inline(always)]
-pub(crate) fn covered_runs<O: Blend, P: Pixel, D: Stored<P>, S: Stored<P>, M: Coverage<P::Chan>>(
+pub(crate) fn masked_runs<O: Blend, P: Pixel, D: Stored<P>, S: Stored<P>, M: Coverage<P::Chan>>(
     dst: &mut [D],
     src: &[S],
     mattes: &[M],
@@ -41,13 +41,13 @@ pub(crate) fn covered_runs<O: Blend, P: Pixel, D: Stored<P>, S: Stored<P>, M: Co
         (map D.reads dst.old) }
 {
     if is_interleaved::<P>() {
-        masked_blocks::<O, P, D, S, M, Pair>(dst, src, mattes, count)
+        masked_blocks::<O, P, D, S, M, RgbaX16>(dst, src, mattes, count)
     } else if has_four::<P>() {
-        masked_blocks::<O, P, D, S, M, Four>(dst, src, mattes, count)
+        masked_blocks::<O, P, D, S, M, PlanesX16>(dst, src, mattes, count)
     } else if has_two::<P>() {
-        masked_blocks::<O, P, D, S, M, Two>(dst, src, mattes, count)
+        masked_blocks::<O, P, D, S, M, GrayaX16>(dst, src, mattes, count)
     } else if has_one::<P>() {
-        masked_blocks::<O, P, D, S, M, One>(dst, src, mattes, count)
+        masked_blocks::<O, P, D, S, M, AlphaX16>(dst, src, mattes, count)
     } else {
         0
     }
@@ -73,13 +73,13 @@ pub(crate) fn faded_runs<O: Blend, P: Pixel, D: Stored<P>, S: Stored<P>>(
         (take result (map S.reads src.now)) (map D.reads dst.old) }
 {
     if is_interleaved::<P>() {
-        faded_blocks::<O, P, D, S, Pair>(dst, src, alpha, count)
+        faded_blocks::<O, P, D, S, RgbaX16>(dst, src, alpha, count)
     } else if has_four::<P>() {
-        faded_blocks::<O, P, D, S, Four>(dst, src, alpha, count)
+        faded_blocks::<O, P, D, S, PlanesX16>(dst, src, alpha, count)
     } else if has_two::<P>() {
-        faded_blocks::<O, P, D, S, Two>(dst, src, alpha, count)
+        faded_blocks::<O, P, D, S, GrayaX16>(dst, src, alpha, count)
     } else if has_one::<P>() {
-        faded_blocks::<O, P, D, S, One>(dst, src, alpha, count)
+        faded_blocks::<O, P, D, S, AlphaX16>(dst, src, alpha, count)
     } else {
         0
     }
@@ -90,7 +90,7 @@ pub(crate) fn faded_runs<O: Blend, P: Pixel, D: Stored<P>, S: Stored<P>>(
 ///
 /// Condition: the format has an alpha channel, and all three slices have `count` elements.
 #[inline(always)]
-pub(crate) fn covered_rest<O: Blend, P: Pixel, D: Stored<P>, S: Stored<P>, M: Coverage<P::Chan>>(
+pub(crate) fn masked_rest<O: Blend, P: Pixel, D: Stored<P>, S: Stored<P>, M: Coverage<P::Chan>>(
     dst: &mut [D],
     src: &[S],
     mattes: &[M],
@@ -107,12 +107,12 @@ pub(crate) fn covered_rest<O: Blend, P: Pixel, D: Stored<P>, S: Stored<P>, M: Co
         (map D.reads dst.old) }
 {
     if is_interleaved::<P>() {
-        let start = masked_blocks::<O, P, D, S, M, Eight>(dst, src, mattes, count);
+        let start = masked_blocks::<O, P, D, S, M, RgbaX8>(dst, src, mattes, count);
         let (rest, sources) = (&mut dst[start..], &src[start..]);
         let (mattes, count) = (&mattes[start..], count - start);
-        start + masked_blocks::<O, P, D, S, M, Interleaved>(rest, sources, mattes, count)
+        start + masked_blocks::<O, P, D, S, M, RgbaX4>(rest, sources, mattes, count)
     } else if has_two::<P>() {
-        masked_blocks::<O, P, D, S, M, HalfTwo>(dst, src, mattes, count)
+        masked_blocks::<O, P, D, S, M, GrayaX8>(dst, src, mattes, count)
     } else {
         0
     }
@@ -138,11 +138,11 @@ pub(crate) fn faded_rest<O: Blend, P: Pixel, D: Stored<P>, S: Stored<P>>(
         (take result (map S.reads src.now)) (map D.reads dst.old) }
 {
     if is_interleaved::<P>() {
-        let start = faded_blocks::<O, P, D, S, Eight>(dst, src, alpha, count);
+        let start = faded_blocks::<O, P, D, S, RgbaX8>(dst, src, alpha, count);
         let (rest, sources) = (&mut dst[start..], &src[start..]);
-        start + faded_blocks::<O, P, D, S, Interleaved>(rest, sources, alpha, count - start)
+        start + faded_blocks::<O, P, D, S, RgbaX4>(rest, sources, alpha, count - start)
     } else if has_two::<P>() {
-        faded_blocks::<O, P, D, S, HalfTwo>(dst, src, alpha, count)
+        faded_blocks::<O, P, D, S, GrayaX8>(dst, src, alpha, count)
     } else {
         0
     }

@@ -5,14 +5,14 @@ ghost use Rattle.pix_chan.specs.Runs.{over};
 ghost use Rattle.pix_el.specs.PixelComposite.{pixel_composite};
 
 use crate::el::Pixel;
+use crate::planes::alpha_x16::AlphaX16;
 use crate::planes::block::{color_blocks, composite_blocks};
-use crate::planes::eight::Eight;
-use crate::planes::four::Four;
-use crate::planes::half::HalfTwo;
-use crate::planes::interleaved::Interleaved;
-use crate::planes::one::One;
-use crate::planes::pair::Pair;
-use crate::planes::two::Two;
+use crate::planes::graya_x8::GrayaX8;
+use crate::planes::graya_x16::GrayaX16;
+use crate::planes::planes_x16::PlanesX16;
+use crate::planes::rgba_x4::RgbaX4;
+use crate::planes::rgba_x8::RgbaX8;
+use crate::planes::rgba_x16::RgbaX16;
 use crate::planes::{has_four, has_one, has_two, is_interleaved};
 use crate::stored::Stored;
 use pix_ops::ops::Blend;
@@ -35,13 +35,13 @@ pub(crate) fn pixel_runs<O: Blend, P: Pixel, D: Stored<P>, S: Stored<P>>(
         (take result (map S.reads src.now)) (map D.reads dst.old) }
 {
     if is_interleaved::<P>() {
-        composite_blocks::<O, P, D, S, Pair>(dst, src, count)
+        composite_blocks::<O, P, D, S, RgbaX16>(dst, src, count)
     } else if has_four::<P>() {
-        composite_blocks::<O, P, D, S, Four>(dst, src, count)
+        composite_blocks::<O, P, D, S, PlanesX16>(dst, src, count)
     } else if has_two::<P>() {
-        composite_blocks::<O, P, D, S, Two>(dst, src, count)
+        composite_blocks::<O, P, D, S, GrayaX16>(dst, src, count)
     } else if has_one::<P>() {
-        composite_blocks::<O, P, D, S, One>(dst, src, count)
+        composite_blocks::<O, P, D, S, AlphaX16>(dst, src, count)
     } else {
         0
     }
@@ -65,11 +65,11 @@ pub(crate) fn pixel_rest<O: Blend, P: Pixel, D: Stored<P>, S: Stored<P>>(
         (take result (map S.reads src.now)) (map D.reads dst.old) }
 {
     if is_interleaved::<P>() {
-        let start = composite_blocks::<O, P, D, S, Eight>(dst, src, count);
+        let start = composite_blocks::<O, P, D, S, RgbaX8>(dst, src, count);
         let (rest, sources) = (&mut dst[start..], &src[start..]);
-        start + composite_blocks::<O, P, D, S, Interleaved>(rest, sources, count - start)
+        start + composite_blocks::<O, P, D, S, RgbaX4>(rest, sources, count - start)
     } else if has_two::<P>() {
-        composite_blocks::<O, P, D, S, HalfTwo>(dst, src, count)
+        composite_blocks::<O, P, D, S, GrayaX8>(dst, src, count)
     } else {
         0
     }
@@ -87,13 +87,13 @@ pub(crate) fn color_runs<O: Blend, P: Pixel, D: Stored<P>>(dst: &mut [D], clr: &
         (take result (replicate (length dst.old) (P.numbers clr.now))) (map D.reads dst.old) }
 {
     if is_interleaved::<P>() {
-        color_blocks::<O, P, D, Pair>(dst, clr)
+        color_blocks::<O, P, D, RgbaX16>(dst, clr)
     } else if has_four::<P>() {
-        color_blocks::<O, P, D, Four>(dst, clr)
+        color_blocks::<O, P, D, PlanesX16>(dst, clr)
     } else if has_two::<P>() {
-        color_blocks::<O, P, D, Two>(dst, clr)
+        color_blocks::<O, P, D, GrayaX16>(dst, clr)
     } else if has_one::<P>() {
-        color_blocks::<O, P, D, One>(dst, clr)
+        color_blocks::<O, P, D, AlphaX16>(dst, clr)
     } else {
         0
     }
@@ -111,10 +111,10 @@ pub(crate) fn color_rest<O: Blend, P: Pixel, D: Stored<P>>(dst: &mut [D], clr: &
         (take result (replicate (length dst.old) (P.numbers clr.now))) (map D.reads dst.old) }
 {
     if is_interleaved::<P>() {
-        let start = color_blocks::<O, P, D, Eight>(dst, clr);
-        start + color_blocks::<O, P, D, Interleaved>(&mut dst[start..], clr)
+        let start = color_blocks::<O, P, D, RgbaX8>(dst, clr);
+        start + color_blocks::<O, P, D, RgbaX4>(&mut dst[start..], clr)
     } else if has_two::<P>() {
-        color_blocks::<O, P, D, HalfTwo>(dst, clr)
+        color_blocks::<O, P, D, GrayaX8>(dst, clr)
     } else {
         0
     }

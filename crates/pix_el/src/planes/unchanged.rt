@@ -9,7 +9,7 @@ use crate::model::ColorModel;
 use crate::stored::Coverage;
 use pix_chan::chan::Channel;
 use pix_ops::ops::Blend;
-use pix_ops::ops::run::Factor;
+use pix_ops::ops::factor::Factor;
 
 /// Returns whether a factor is 0: it turns the maximum into 0, whether the other side is
 /// transparent or opaque.

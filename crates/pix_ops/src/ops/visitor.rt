@@ -37,8 +37,11 @@ pub trait SliceVisitor<T> {
 /// The composite of one channel, as an action on the destination.
 #[derive(Clone, Copy)]
 pub(super) struct OneChannel<C> {
+    /// One minus the alpha of the destination.
     pub(super) da1: C,
+    /// The channel of the source.
     pub(super) src: C,
+    /// One minus the alpha of the source.
     pub(super) sa1: C,
 }
 

@@ -18,9 +18,11 @@ pub(crate) struct AxisRegion {
     pub(crate) count: u32,
 }
 
-/// Returns the overlap along one axis of a region and those of a source and of a mask, as
-/// [`axis_overlap`](super::axis_overlap) does for two: the columns, or rows, at the offsets that
-/// lie in all three. Beside it is the column, or row, of the mask for the first of them.
+/// Returns the overlap along one axis of a region and those of a source and of a mask: the columns,
+/// or rows, at the offsets that lie in all three. The window has `count` columns or rows from
+/// `first` on, and those of the destination are given by their distances from `first`. The region
+/// has `to_len` from `to` on. Beside the overlap is the column, or row, of the mask for the first
+/// of them.
 #[inline(always)]
 pub(crate) fn masked_overlap(
     to: i32,

@@ -17,7 +17,7 @@ use super::Raster;
 use crate::command::Command;
 use crate::region::Region;
 use crate::view::{
-    self, Blit, Commands, Draw, Fill, NoMattes, OnWindow, Shape, Single, Source, Window,
+    self, Blit, Commands, Draw, Fill, NoMattes, Shape, Single, Source, Window, WindowCommand,
     paint_by_bands,
 };
 use pix_chan::chan::{Alpha, Linear, Premultiplied};
@@ -34,9 +34,9 @@ impl<P: Pixel> Raster<P> {
     /// # Examples
     ///
     /// ```rust
+    /// page.composite_color(Region::new(0, 0, 32, 48), Rgba8p::new(0, 0, 64, 64), SrcOver);
     /// let copy = page.try_clone(alloc)?;
     /// page.clear();
-    /// page.copy_raster(Region::from((8, 8)), &copy, copy.region()); // clipped to the page
     /// ```
     pub fn clear(&mut self)
         ensures { Changed P.numbers self.old self.new (done_at P.layout P.numbers
@@ -52,7 +52,7 @@ impl<P: Pixel> Raster<P> {
     /// ```rust
     /// let mut page = Raster::with_color(alloc, 64, 48, Rgba8p::new(255, 255, 255, 255))?;
     /// page.copy_color(Region::new(-8, 40, 16, 16), Rgba8p::new(255, 0, 0, 255));
-    /// page.composite_color(
+    /// page.composite_color(Region::new(0, 0, 32, 48), Rgba8p::new(0, 0, 64, 64), SrcOver);
     /// ```
     pub fn copy_color(&mut self, reg: Region, clr: P)
         ensures { Changed P.numbers self.old self.new (done_at P.layout P.numbers
@@ -186,7 +186,7 @@ impl<P: Pixel<Alpha = Premultiplied, Gamma = Linear>> Raster<P> {
     {
         let window = self.window();
         let formats = PhantomData;
-        let there = OnWindow::<P, M, Single<'_, P, M, O>> {
+        let there = WindowCommand::<P, M, Single<'_, P, M, O>> {
             command: single,
             window,
             formats,
@@ -231,7 +231,7 @@ impl<P: Pixel<Alpha = Premultiplied, Gamma = Linear>> Raster<P> {
     /// ```rust
     /// let mut page = Raster::with_color(alloc, 64, 48, Rgba8p::new(255, 255, 255, 255))?;
     /// page.copy_color(Region::new(-8, 40, 16, 16), Rgba8p::new(255, 0, 0, 255));
-    /// page.composite_color(
+    /// page.composite_color(Region::new(0, 0, 32, 48), Rgba8p::new(0, 0, 64, 64), SrcOver);
     /// ```
     pub fn composite_color<O: Blend>(&mut self, reg: Region, clr: P, op: O)
         requires has_alpha { P.layout.count ≡ P.layout.alpha + 1 }
@@ -421,14 +421,14 @@ impl<P: Pixel<Alpha = Premultiplied, Gamma = Linear>> Raster<P> {
     /// # Examples
     ///
     /// ```rust
-    ///     let (reg, clr) = (Region::new(8, 8, 16, 16), Rgba8p::new(0, 0, 64, 64));
-    ///     let op = Op::SrcOver;
-    ///     let commands: [Command<'_, Rgba8p, Matte8>; 3] = [
-    ///         Command::Clear,
-    ///         Command::CopyColor { reg, clr },
-    ///         Command::Color { reg, clr, op },
-    ///     ];
-    ///     page.run(&commands);
+    /// let (reg, clr) = (Region::new(8, 8, 16, 16), Rgba8p::new(0, 0, 64, 64));
+    /// let op = Op::SrcOver;
+    /// let commands: [Command<'_, Rgba8p, Matte8>; 3] = [
+    ///     Command::Clear,
+    ///     Command::CopyColor { reg, clr },
+    ///     Command::Color { reg, clr, op },
+    /// ];
+    /// page.run(&commands);
     /// ```
     pub fn run<const N: usize, A: Alpha>(
         &mut self,

@@ -33,9 +33,11 @@ impl<P: Pixel<Alpha = Premultiplied, Gamma = Linear>> Raster<P> {
     /// # Examples
     ///
     /// ```rust
+    /// let (over_both, op) = (Region::new(60, 2, 8, 8), Op::SrcOver);
+    /// let commands: [Command<'_, Rgba8p, Matte8>; 1] =
+    ///     [Command::Color { reg: over_both, clr: sun, op }];
     /// let mut tile = Raster::with_color(alloc, 64, 48, sky)?; // the second of the page's tiles
     /// tile.run_window(64, 0, &commands); // the first one by run_window(0, 0, &commands)
-    /// Ok(tile)
     /// ```
     pub fn run_window<const N: usize, A: Alpha>(
         &mut self,

@@ -106,7 +106,9 @@ pub trait ReadCommand<D, M>: ReadDraw<D, M> {
 /// A single drawing, by the operator `O`.
 #[derive(Drop)]
 pub(crate) struct Single<'a, D, M, O> {
+    /// The drawing.
     pub(crate) draw: Draw<'a, D, M>,
+    /// The operator.
     pub(crate) op: PhantomData<O>,
 }
 

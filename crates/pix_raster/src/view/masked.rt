@@ -24,7 +24,7 @@ pub struct Source<'a, S> {
 }
 
 impl<'a, S> Source<'a, S> {
-    /// Returns the source again.
+    /// Returns a source of the same pixels, shape and region, borrowed for as long as this one is.
     #[inline(always)]
     pub(crate) fn lent(&self) -> Source<'_, S>
         requires { IsSource self.now }

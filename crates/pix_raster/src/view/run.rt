@@ -12,7 +12,7 @@ use pix_chan::chan::{Linear, Premultiplied};
 use pix_el::el::Pixel;
 use pix_el::rows::{
     ClearedPixels, CompositedColor, CompositedPixels, CopiedColor, CopiedPixels, FadedPixels,
-    MattedColor, MattedPixels,
+    MaskedPixels, MattedColor,
 };
 use pix_el::stored::{Coverage, Stored};
 use pix_ops::ops::{Blend, SliceVisitor};
@@ -21,9 +21,12 @@ use std::marker::PhantomData;
 /// A command on a window of a picture, in which pixels are of the format `P` and a matte lies as an
 /// `M`. It is read when its operator is a type, so that the drawing never lies in memory.
 #[derive(Drop)]
-pub(crate) struct OnWindow<'a, P, M, C> {
+pub(crate) struct WindowCommand<'a, P, M, C> {
+    /// The command.
     pub(crate) command: &'a C,
+    /// The window.
     pub(crate) window: Window,
+    /// The formats.
     pub(crate) formats: PhantomData<(P, M)>,
 }
 
@@ -33,7 +36,7 @@ impl<
     D: Stored<P>,
     M: Coverage<P::Chan>,
     C: ReadDraw<D, M>,
-> SliceVisitor<D> for OnWindow<'a, P, M, C> {
+> SliceVisitor<D> for WindowCommand<'a, P, M, C> {
     ghost can_visit = { λ it op count. (P.layout.count ≡ P.layout.alpha + 1)
         × IsWindow it.window count × C.can_read it.command.now
         × (op ≡ op_of (C.command it.command.now)) };
@@ -73,7 +76,7 @@ impl<
                 blit_window(pixels, window, *to, src.pixels, src.shape, src.from, &blit);
             }
             Draw::ImageMatte { to, src, mask } => {
-                let blit = MattedPixels::<P, O> { op, format };
+                let blit = MaskedPixels::<P, O> { op, format };
                 blit_masked(pixels, window, *to, src, mask, &blit);
             }
             Draw::ImageAlpha { to, src, alpha } => {
@@ -135,7 +138,7 @@ impl<
     fn paint(&self, pixels: &mut [D], window: Window) {
         for command in self.commands {
             let formats = PhantomData;
-            let there = OnWindow::<P, M, C> {
+            let there = WindowCommand::<P, M, C> {
                 command,
                 window,
                 formats,

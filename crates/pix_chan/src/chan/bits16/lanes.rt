@@ -94,7 +94,9 @@ pub(super) fn units(c: &[Ch16]) -> u16x16
     u16x16::from_array(own)
 }
 
-/// Returns the channels of sixteen numbers, with a loop as well.
+/// Returns the channels of sixteen numbers.
+///
+/// LLVM compiles the loop to one copy.
 #[inline(always)]
 pub(super) fn channels(v: u16x16) -> [Ch16; 16]
     ensures { map (λ x. x.value) result ≡ v }

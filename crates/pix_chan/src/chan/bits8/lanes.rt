@@ -8,7 +8,7 @@ ghost use Rattle.pix_chan.specs.LaneQuotients.{alphas_in};
 ghost use Rattle.pix_chan.specs.Lanes.{high_half};
 
 use crate::chan::bits8::Ch8;
-use crate::reciprocals::quotient;
+use crate::quotients8::quotient;
 use std::simd::prelude::*;
 
 /// Returns the channel product of the bytes of each lane.

@@ -28,8 +28,9 @@ fn near(a: u16x16, b: u16x16) -> u16x16
 
 /// Returns the channel product of the bytes of each lane.
 ///
-/// The odd ones go back to their places by a shuffle of bytes. A shift of words by 8 does the same,
-/// but LLVM then computes the high half of their products by four steps in place of one.
+/// The odd ones go back to their places by a shuffle of bytes. A shift of words by 8 brings
+/// them there too, but LLVM then computes the high half of their products by four steps in place of
+/// one.
 #[inline(always)]
 fn product_lanes(a: u8x32, b: u8x32) -> u8x32
     ensures { result ≡ zip2 (channel_product 255) a b }
@@ -101,7 +102,9 @@ pub(super) fn units(c: &[Ch8]) -> u8x32
     u8x32::from_array(own)
 }
 
-/// Returns the channels of thirty-two numbers, with a loop as well.
+/// Returns the channels of thirty-two numbers.
+///
+/// LLVM compiles the loop to one copy.
 #[inline(always)]
 pub(super) fn channels(v: u8x32) -> [Ch8; 32]
     ensures { map (λ x. x.value) result ≡ v }

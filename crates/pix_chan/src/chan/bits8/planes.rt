@@ -29,7 +29,7 @@ pub(super) fn cut(a: u8x16, b: u8x16) -> (u8x16, u8x16)
 }
 
 /// Returns pairs of lanes of both vectors in turn: those of the lower halves, and those of the
-/// upper. This uses a cast as well.
+/// upper. This uses a cast of pairs, which LLVM leaves whole.
 #[inline(always)]
 fn mesh(a: u8x16, b: u8x16) -> (u8x16, u8x16)
     ensures low { result.0 ≡ pick_l 0 (a ++ b) low_pairs }

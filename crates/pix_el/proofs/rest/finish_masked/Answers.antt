@@ -10,7 +10,7 @@ use Rattle.pix_el.proofs.rest.finish_masked.Goals as goal
 
 pub loop-i-init : goal.loop-i-init
 loop-i-init g c =
-    let runs = c.covered_rest-start in
+    let runs = c.masked_rest-start in
     runs.ensures.composite
     ∙ masked_by_values g.P.Pixel.layout g.O.Blend.op g.P.Chan.Channel.max (sym (ap (λ (l : Layout). l.max) g.met.P.Pixel.laid_out)) g.M.Coverage.numbers
     runs.result c.args.mask.now (map g.S.Stored.reads c.args.src.now) (map g.D.Stored.reads c.args.row.now)

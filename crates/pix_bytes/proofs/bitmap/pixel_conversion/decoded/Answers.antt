@@ -4,8 +4,8 @@ use Rattle.pix_chan.specs.declared.chan.bits8.Ch8.{Ch8}
 use Rattle.pix_el.specs.Pixel.{channel}
 use Rattle.pix_el.specs.Conversion.{Format, at_depth}
 use Rattle.pix_el.specs.Light.{channel_in_light}
-use Rattle.pix_bytes.specs.Four.{as_list}
-use Rattle.pix_bytes.proofs.Fours.{four_made, channel_made}
+use Rattle.pix_bytes.specs.FourChannels.{as_list}
+use Rattle.pix_bytes.proofs.FourChannels.{four_made, channel_made}
 use Rattle.pix_bytes.proofs.Steps.{step_in_light}
 use Rattle.pix_bytes.proofs.bitmap.pixel_conversion.decoded.Goals as goal
 

@@ -4,7 +4,7 @@ use Rattle.pix_el.specs.Pixel.{channel}
 use Rattle.pix_el.specs.Conversion.{Format}
 use Rattle.pix_el.specs.Light.{channel_as_srgb}
 use Rattle.pix_el.proofs.Conversions.{four_channels}
-use Rattle.pix_bytes.specs.Four.{as_list}
+use Rattle.pix_bytes.specs.FourChannels.{as_list}
 use Rattle.pix_bytes.proofs.Steps.{step_as_srgb}
 use Rattle.pix_bytes.proofs.bitmap.pixel_conversion.encoded.Goals as goal
 

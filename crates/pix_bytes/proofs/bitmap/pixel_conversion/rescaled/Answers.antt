@@ -1,8 +1,8 @@
 use Rattle.std.proofs.Common.{◌∙◌, List, ℕ}
 use Rattle.pix_el.specs.Pixel.{Layout, channel}
 use Rattle.pix_el.specs.Conversion.{at_depth}
-use Rattle.pix_bytes.specs.Four.{as_list}
-use Rattle.pix_bytes.proofs.Fours.{four_made, channel_made}
+use Rattle.pix_bytes.specs.FourChannels.{as_list}
+use Rattle.pix_bytes.proofs.FourChannels.{four_made, channel_made}
 use Rattle.pix_bytes.proofs.bitmap.pixel_conversion.rescaled.Goals as goal
 
 pub returns : goal.returns

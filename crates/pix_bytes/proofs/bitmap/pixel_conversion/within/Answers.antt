@@ -1,7 +1,7 @@
 use Rattle.std.proofs.Common.{◌∙◌, refl, List, ℕ}
 use Rattle.pix_el.specs.Conversion.{Format, of_depth, channel_reencoded}
 use Rattle.pix_el.proofs.Conversions.{four_channels}
-use Rattle.pix_bytes.specs.Four.{as_list}
+use Rattle.pix_bytes.specs.FourChannels.{as_list}
 use Rattle.pix_bytes.proofs.Steps.{step_converted}
 use Rattle.pix_bytes.proofs.bitmap.pixel_conversion.within.Goals as goal
 

@@ -10,7 +10,7 @@ pub returns-then-row-le-SHORT : goal.returns-then-row-le-SHORT
 returns-then-row-le-SHORT g c =
     let n = g.D.Stored.reads in
     c.blit.ensures
-    ∙ replaced_row n g.P.Pixel.layout g.O.Blend.op c.args.src.now (map n c.args.row.now) (c.if-replaces.ensures refl) g.met.D.Stored.fits c.see_channels.ensures
+    ∙ replaced_row n g.P.Pixel.layout g.O.Blend.op c.args.src.now (map n c.args.row.now) (c.if-replaces.ensures refl) g.met.D.Stored.fits c.establish_channels.ensures
 
 pub returns-then-clears : goal.returns-then-clears
 returns-then-clears g c =

@@ -25,8 +25,8 @@ returns-then-start-count g c =
     let color = g.P.Pixel.numbers c.args.self.now.clr in
     let row = c.args.row.now in
     let src = c.args.src.now in
-    let first = c.coverage_runs-start in
-    let rest = c.finish_coverage in
+    let first = c.matted_runs-start in
+    let rest = c.finish_matted in
     last_run n m (λ (matte d : List ℕ). matted_composite layout g.O.Blend.op (matte_value layout matte) color d) first.result row first.new.dst rest.new.row src
     (first.ensures.composite ∙ by_values layout g.O.Blend.op g.P.Chan.Channel.max (sym (ap (λ (l : Layout). l.max) g.met.P.Pixel.laid_out)) m first.result src color (map n row))
     (omega arith) rest.ensures
@@ -39,7 +39,7 @@ returns-else-start-count g c =
     let color = g.P.Pixel.numbers c.args.self.now.clr in
     let row = c.args.row.now in
     let src = c.args.src.now in
-    let first = c.coverage_runs-start in
+    let first = c.matted_runs-start in
     whole_run n m (λ (d matte : List ℕ). matted_composite layout g.O.Blend.op (matte_value layout matte) color d) row src first.result first.new.dst
     (first.ensures.composite ∙ by_values layout g.O.Blend.op g.P.Chan.Channel.max (sym (ap (λ (l : Layout). l.max) g.met.P.Pixel.laid_out)) m first.result src color (map n row))
     (omega arith)

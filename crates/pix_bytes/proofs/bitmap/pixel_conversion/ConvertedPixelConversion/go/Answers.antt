@@ -3,12 +3,12 @@ use Rattle.std.specs.Prelude.{◌≢◌}
 use Rattle.pix_el.specs.Color.{of_rgba}
 use Rattle.pix_el.specs.Conversion.{Format, rgba_format}
 use Rattle.pix_el.proofs.Conversions.{converted_same, converted_other, across_is}
-use Rattle.pix_bytes.specs.Four.{as_list}
+use Rattle.pix_bytes.specs.FourChannels.{as_list}
 use Rattle.pix_bytes.specs.Models.{model_of}
 use Rattle.pix_bytes.specs.Rows.{IsStep, alpha_mode_of, format_at}
 use Rattle.pix_bytes.specs.BitmapFormats.{out_of_rgb}
 use Rattle.pix_bytes.specs.declared.bitmap.pixel_conversion.Step.{Step}
-use Rattle.pix_bytes.proofs.Fours.{take_four, same_converted}
+use Rattle.pix_bytes.proofs.FourChannels.{take_four, same_converted}
 use Rattle.pix_bytes.proofs.ModelsByName.{channels_of_rgba, at_most_four}
 use Rattle.pix_bytes.proofs.bitmap.pixel_conversion.ConvertedPixelConversion.go.Goals as goal
 

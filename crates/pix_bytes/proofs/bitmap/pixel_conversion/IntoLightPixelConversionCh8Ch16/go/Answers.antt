@@ -4,11 +4,11 @@ use Rattle.pix_chan.specs.declared.chan.bits8.Ch8.{Ch8}
 use Rattle.pix_el.specs.Conversion.{Format, converted}
 use Rattle.pix_el.specs.Light.{in_light}
 use Rattle.pix_bytes.specs.Bitmap.{light_format}
-use Rattle.pix_bytes.specs.Four.{as_list}
+use Rattle.pix_bytes.specs.FourChannels.{as_list}
 use Rattle.pix_bytes.specs.Models.{model_of}
 use Rattle.pix_bytes.specs.Rows.{IsStep, alpha_mode_of, format_at}
 use Rattle.pix_bytes.specs.BitmapFormats.{format_with}
-use Rattle.pix_bytes.proofs.Fours.{same_in_light}
+use Rattle.pix_bytes.proofs.FourChannels.{same_in_light}
 use Rattle.pix_bytes.proofs.bitmap.pixel_conversion.IntoLightPixelConversionCh8Ch16.go.Goals as goal
 
 pub returns : goal.returns

@@ -5,11 +5,11 @@ use Rattle.pix_chan.specs.declared.chan.bits16.Ch16.{Ch16}
 use Rattle.pix_el.specs.Pixel.{channel}
 use Rattle.pix_el.specs.Conversion.{Format, converted}
 use Rattle.pix_bytes.specs.Bitmap.{light_format}
-use Rattle.pix_bytes.specs.Four.{as_list}
+use Rattle.pix_bytes.specs.FourChannels.{as_list}
 use Rattle.pix_bytes.specs.Models.{model_of}
 use Rattle.pix_bytes.specs.Rows.{IsStep, alpha_mode_of, format_at}
 use Rattle.pix_bytes.specs.BitmapFormats.{format_with}
-use Rattle.pix_bytes.proofs.Fours.{channel_taken, same_as_srgb}
+use Rattle.pix_bytes.proofs.FourChannels.{channel_taken, same_as_srgb}
 use Rattle.pix_bytes.proofs.bitmap.pixel_conversion.OutOfLightPixelConversionCh16Ch8.go.Goals as goal
 
 pub returns : goal.returns

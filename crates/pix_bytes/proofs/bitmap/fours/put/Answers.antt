@@ -1,5 +1,0 @@
-use Rattle.pix_bytes.proofs.LitFours.{bytes_are}
-use Rattle.pix_bytes.proofs.bitmap.fours.put.Goals as goal
-
-pub returns-in-Some : goal.returns-in-Some
-returns-in-Some c = bytes_are 16 c.args.lanes c.fits-lanes.0 c.fits-lanes.1

@@ -1,7 +1,0 @@
--- Pixels of any format as four channels.
-use Rattle.std.specs.Prelude.{ℕ, List, [], ◌∷◌}
-use Rattle.pix_bytes.specs.declared.bitmap.four.Four.{Four}
-
--- the numbers of the four channels
-abbrev pub as_list : {C : Type 0} → (C → ℕ) → Four C → List ℕ
-as_list number pixel = number pixel.one ∷ number pixel.two ∷ number pixel.three ∷ number pixel.four ∷ []

@@ -1,5 +1,0 @@
-use Rattle.pix_chan.proofs.ByTable.{entry}
-use Rattle.pix_chan.proofs.reciprocals.reciprocal.Goals as goal
-
-pub returns : goal.returns
-returns c = search (entry, c.from.ensures, c.requires)

@@ -1,0 +1,5 @@
+use Rattle.pix_el.proofs.MaskedBlocks.{made_of}
+use Rattle.pix_el.proofs.planes.alpha_x16.AlphaX16Block.composite.Goals as goal
+
+pub returns : goal.returns
+returns g c = made_of g.P.Pixel.layout g.O.Blend.op _ _ _ _ c.composite_sixteen.ensures c.sixteen_pixels.ensures

@@ -1,6 +1,0 @@
-use Rattle.std.proofs.Common.{◌∙◌, ap}
-use Rattle.pix_el.specs.Planes.{by_fours}
-use Rattle.pix_el.proofs.planes.four.put_planes.Goals as goal
-
-pub returns : goal.returns
-returns g c = c.put_fours.ensures ∙ ap by_fours c.join4-a.ensures
