@@ -3,9 +3,9 @@ use Rattle.std.specs.Prelude.{◌/◌, slice_index, slice_index_or, min}
 use Rattle.std.proofs.Common.{◌≡◌, ◌≢◌, ℕ, ◌+◌, ◌-◌, ◌*◌, ◌<◌, ◌≤◌, Bool, true, false, List, [], ◌∷◌, length, arith, sym, ap, ◌∙◌, subst, ◌⊎◌, inl, inr}
 use Rattle.std.proofs.lemmas.Bool.{cases_lt, cases_Bool}
 use Rattle.std.proofs.lemmas.Bool.Decides.{nat_tests}
-use Rattle.pix_table.specs.ColorBlocks.{IsBest, Lies}
-use Rattle.pix_table.specs.PaletteMatch.{color_difference, difference_to, is_within}
-use Rattle.pix_table.proofs.PaletteMatches.{all_far}
+use Rattle.pix_table.specs.threshold.ColorBlocks.{IsBest, Lies}
+use Rattle.pix_table.specs.threshold.PaletteMatch.{color_difference, difference_to, is_within}
+use Rattle.pix_table.proofs.lemmas.threshold.PaletteMatches.{all_far}
 use Rattle.pix_palette.specs.Finder.{AreFar, IsLatest, cell, place_at, steps}
 
 module _ (colors : List (List ℕ)) (color least : List ℕ) where

@@ -2,7 +2,7 @@
 use Rattle.std.specs.Prelude.{take}
 use Rattle.std.proofs.Common.{◌≡◌, ℕ, ◌+◌, ◌<◌, ◌≤◌, List, [], ◌∷◌, ◌++◌, length, get_or, set, refl, sym, ap, ◌∙◌, subst, Option}
 use Rattle.std.proofs.lemmas.List.{take_more, take_more_set, take_all}
-use Rattle.pix_table.specs.Indexing.{Setting}
+use Rattle.pix_table.specs.threshold.Indexing.{Setting}
 use Rattle.pix_palette.specs.Entries.{AreEntriesSet}
 
 -- one color more

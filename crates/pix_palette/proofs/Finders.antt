@@ -5,11 +5,11 @@ use Rattle.std.proofs.lemmas.Bool.{cases_lt, cases_eq, true≢false}
 use Rattle.std.proofs.lemmas.List.{get_or-replicate, length-replicate, get_or-set_same, get_or-set_other, get_or_append_left}
 use Rattle.std.proofs.Math.Seq.{get_or-append_seam}
 use Rattle.std.proofs.lemmas.Bool.Decides.{nat_tests}
-use Rattle.pix_table.specs.Quantization.{same_color}
-use Rattle.pix_table.specs.PaletteMatch.{color_difference, difference_to, IsFirstOf}
-use Rattle.pix_table.proofs.Settings.{Grows, entry_stays, longer}
-use Rattle.pix_table.specs.ColorBlocks.{AreBlocks, IsBlock, channels_at}
-use Rattle.pix_table.specs.declared.color_block.ColorBlock.{ColorBlock}
+use Rattle.pix_table.specs.quantization.Quantization.{same_color}
+use Rattle.pix_table.specs.threshold.PaletteMatch.{color_difference, difference_to, IsFirstOf}
+use Rattle.pix_table.proofs.lemmas.threshold.Settings.{Grows, entry_stays, longer}
+use Rattle.pix_table.specs.threshold.ColorBlocks.{AreBlocks, IsBlock, channels_at}
+use Rattle.pix_table.specs.declared.threshold.color_block.ColorBlock.{ColorBlock}
 use Rattle.pix_palette.specs.Finder.{cell, place, place_at, IsLatest, AreLists, IsNowhere, Follows}
 use Rattle.pix_palette.specs.declared.palette.finder.Finder.{Finder}
 

@@ -1,10 +1,10 @@
 -- Each index has an entry that represents its color.
 use Rattle.std.proofs.Common.{◌≡◌, ℕ, zero, suc, ◌<◌, ◌≤◌, true, List, [], ◌∷◌, length, map, get_or, refl, arith, sym, ◌∙◌, subst, inl, inr, Some, None, Option}
 use Rattle.std.proofs.lemmas.Bool.Decides.{nat_tests}
-use Rattle.pix_table.specs.PaletteMatch.{color_difference, is_within}
-use Rattle.pix_table.specs.Setting.{Fits, StandsFor, IsSet, Always}
-use Rattle.pix_table.specs.Indexing.{AreSet}
-use Rattle.pix_table.proofs.Settings.{Grows, grows_none, grows_trans, set_grows, set_stands, entry_stays, longer, match_below}
+use Rattle.pix_table.specs.threshold.PaletteMatch.{color_difference, is_within}
+use Rattle.pix_table.specs.threshold.Setting.{Fits, StandsFor, IsSet, Always}
+use Rattle.pix_table.specs.threshold.Indexing.{AreSet}
+use Rattle.pix_table.proofs.lemmas.threshold.Settings.{Grows, grows_none, grows_trans, set_grows, set_stands, entry_stays, longer, match_below}
 use Rattle.pix_palette.specs.Palette.{Color, numbers, Answers}
 use Rattle.pix_raster.specs.Image.{Image}
 use Rattle.pix_palette.specs.ColorTable.{IsIndexedIn}

@@ -33,9 +33,11 @@ pub many_values : {P : Type 0} (read : P → List ℕ) (pixels : List P) → len
 many_values read pixels = length-map pixels (λ q. get_or (read q) 0 0)
 
 -- a list that is written over as a whole
+pub rewritten : {X : Type 0} (n : ℕ) (xs ws : List X) → n ≡ length ws → take n (ws ++ drop (length ws) xs) ≡ ws
+rewritten n xs ws e = take-append-le n ws (drop (length ws) xs) (omega arith) ∙ ap (λ m. take m ws) e ∙ take-length ws
+
 pub refilled : {X : Type 0} (xs ws : List X) → length ws ≡ length xs → take (length xs) (ws ++ drop (length ws) xs) ≡ ws
-refilled xs ws e =
-    take-append-le (length xs) ws (drop (length ws) xs) (omega arith) ∙ ap (λ n. take n ws) (sym e) ∙ take-length ws
+refilled xs ws e = rewritten (length xs) xs ws (sym e)
 
 -- one pixel more that has its gray value alone
 pub gray_more : {P : Type 0} (read : P → List ℕ) (pixels : List P) (i : ℕ) (p : P) (k : ℕ) → i < length pixels → read p ≡ k ∷ []

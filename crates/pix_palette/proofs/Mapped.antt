@@ -3,9 +3,9 @@ use Rattle.std.specs.Prelude.{slice_get, unwrap_or}
 use Rattle.std.specs.Option.{option_map}
 use Rattle.std.proofs.Common.{◌≡◌, ℕ, zero, suc, ◌<◌, List, [], ◌∷◌, length, map, get_or, refl, arith, sym, ap, ◌∙◌, subst}
 use Rattle.std.proofs.lemmas.List.{length-map}
-use Rattle.pix_table.specs.Nearest.{IsNearest}
-use Rattle.pix_table.specs.LookUp.{AreLookedUp}
-use Rattle.pix_table.specs.PaletteMatch.{color_difference}
+use Rattle.pix_table.specs.matching.Nearest.{IsNearest}
+use Rattle.pix_table.specs.packing.LookUp.{AreLookedUp}
+use Rattle.pix_table.specs.threshold.PaletteMatch.{color_difference}
 use Rattle.pix_raster.specs.Image.{Image}
 use Rattle.pix_palette.specs.Palette.{Color, numbers}
 use Rattle.pix_palette.specs.Indexing.{AllEqual, AreGray, values}

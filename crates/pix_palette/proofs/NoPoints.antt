@@ -2,7 +2,7 @@
 use Rattle.std.proofs.Common.{◌≡◌, ℕ, ◌*◌, ◌≤◌, ◌<◌, None, List, [], ◌∷◌, length, map, take, nat_lt, false, refl, arith, ap, sym, inl, inr, ◌∙◌, if◌then◌else◌}
 use Rattle.std.proofs.lemmas.Bool.{le-ltb}
 use Rattle.std.proofs.lemmas.List.{length-map, length-take}
-use Rattle.pix_table.specs.SeenTables.{IsQuantizedRgba, distinct_pixels}
+use Rattle.pix_table.specs.quantization.SeenTables.{IsQuantizedRgba, distinct_pixels}
 use Rattle.pix_raster.specs.Region.{limit}
 use Rattle.pix_raster.specs.Sizes.{size_fault}
 

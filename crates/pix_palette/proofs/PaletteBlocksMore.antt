@@ -4,10 +4,10 @@ use Rattle.std.specs.Prelude.{◌/◌, ◌%◌}
 use Rattle.std.proofs.lemmas.Bool.{cases_lt, cases_eq}
 use Rattle.std.proofs.lemmas.List.{get_or_default, get_or-set_same, get_or-set_other, get_or_append_left}
 use Rattle.std.proofs.Math.Seq.{get_or-append_seam}
-use Rattle.pix_table.specs.ColorBlocks.{AreBlocks, IsBlock}
-use Rattle.pix_table.specs.BlockBounds.{AreBlockBounds, Covers}
-use Rattle.pix_table.specs.declared.block_bounds.BlockBounds.{BlockBounds}
-use Rattle.pix_table.specs.declared.color_block.ColorBlock.{ColorBlock}
+use Rattle.pix_table.specs.threshold.ColorBlocks.{AreBlocks, IsBlock}
+use Rattle.pix_table.specs.matching.BlockBounds.{AreBlockBounds, Covers}
+use Rattle.pix_table.specs.declared.matching.block_bounds.BlockBounds.{BlockBounds}
+use Rattle.pix_table.specs.declared.threshold.color_block.ColorBlock.{ColorBlock}
 
 -- what stands at the end of a list with one more
 last_there : (blocks : List ColorBlock) (block d : ColorBlock) (k : ℕ) → length blocks ≡ k → get_or (blocks ++ block ∷ []) k d ≡ block

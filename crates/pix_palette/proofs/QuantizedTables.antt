@@ -1,6 +1,6 @@
 -- Tables that are made of pixels.
 use Rattle.std.proofs.Common.{ℕ, List, Option, Some, None, MatchOption, map}
-use Rattle.pix_table.proofs.TableRounds.{unrefined}
+use Rattle.pix_table.proofs.lemmas.quantization.TableRounds.{unrefined}
 use Rattle.pix_palette.specs.Palette.{numbers}
 use Rattle.pix_palette.specs.ColorTable.{IsMadeOf, IsRefinedMadeOf, entries_of}
 use Rattle.pix_palette.specs.declared.palette.slots.ColorTable.{ColorTable}

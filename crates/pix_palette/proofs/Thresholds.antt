@@ -1,9 +1,9 @@
 -- An entry that stands for a color by a threshold which is answered stands for it.
 use Rattle.std.proofs.Common.{◌≡◌, ℕ, List, [], ◌∷◌, Bool, true, false, length, map, sym, subst, ◌∙◌, inl, inr, Option, Some, None}
 use Rattle.std.proofs.lemmas.List.{length-map}
-use Rattle.pix_table.specs.PaletteMatch.{difference_to}
-use Rattle.pix_table.specs.Setting.{Fits, Matches, StandsFor, Always}
-use Rattle.pix_table.proofs.Settings.{none_stands}
+use Rattle.pix_table.specs.threshold.PaletteMatch.{difference_to}
+use Rattle.pix_table.specs.threshold.Setting.{Fits, Matches, StandsFor, Always}
+use Rattle.pix_table.proofs.lemmas.threshold.Settings.{none_stands}
 use Rattle.pix_palette.specs.Palette.{Color, numbers}
 use Rattle.pix_palette.specs.Finder.{IsNowhere}
 

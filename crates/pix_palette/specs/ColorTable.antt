@@ -1,12 +1,12 @@
 -- Tables of colors with a constant threshold.
 use Rattle.std.specs.Prelude.{◌≡◌, ℕ, ◌<◌, List, [], ◌∷◌, length, map, take, slice_index_or, slice_index, Option, Some, None, IfSome}
-use Rattle.pix_table.specs.Nearest.{IsNearest}
-use Rattle.pix_table.specs.LookUp.{AreLookedUp}
-use Rattle.pix_table.specs.Quantization.{IsQuantized}
-use Rattle.pix_table.specs.Refine.{IsQuantizedRefined}
-use Rattle.pix_table.specs.Setting.{Always, IsSet}
-use Rattle.pix_table.specs.Indexing.{AreIndexed}
-use Rattle.pix_table.specs.PaletteMatch.{color_difference}
+use Rattle.pix_table.specs.matching.Nearest.{IsNearest}
+use Rattle.pix_table.specs.packing.LookUp.{AreLookedUp}
+use Rattle.pix_table.specs.quantization.Quantization.{IsQuantized}
+use Rattle.pix_table.specs.quantization.Refine.{IsQuantizedRefined}
+use Rattle.pix_table.specs.threshold.Setting.{Always, IsSet}
+use Rattle.pix_table.specs.threshold.Indexing.{AreIndexed}
+use Rattle.pix_table.specs.threshold.PaletteMatch.{color_difference}
 use Rattle.pix_raster.specs.Image.{Image}
 use Rattle.pix_palette.specs.Palette.{Color, numbers}
 use Rattle.pix_palette.specs.Indexing.{AllRepresented, AllEqual, AreGray, values}

@@ -1,6 +1,6 @@
 -- Setting many colors in a palette: each is set in the palette that those before it left.
 use Rattle.std.specs.Prelude.{◌≡◌, ℕ, List, [], ◌∷◌, Option}
-use Rattle.pix_table.specs.Indexing.{Setting}
+use Rattle.pix_table.specs.threshold.Indexing.{Setting}
 
 -- setting colors, one after the other, gives these answers, one for each
 abbrev pub AreEntriesSet : {C : Type 0} → Setting C → (old colors : List C) → List (Option ℕ) → (new : List C) → Type 0

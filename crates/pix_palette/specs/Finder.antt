@@ -1,9 +1,9 @@
 -- How a finder keeps the entries of a palette: by the places of their colors. No clause that a user
 -- reads cites this file.
 use Rattle.std.specs.Prelude.{◌≡◌, ◌≢◌, ◌⊎◌, ℕ, ◌+◌, ◌*◌, ◌/◌, ◌%◌, ◌-◌, ◌<◌, ◌≤◌, min, false, List, [], ◌∷◌, length, slice_index, slice_index_or}
-use Rattle.pix_table.specs.ColorBlocks.{AreBlocks}
-use Rattle.pix_table.specs.PaletteMatch.{difference_to, is_within}
-use Rattle.pix_table.specs.BlockBounds.{AreBlockBounds}
+use Rattle.pix_table.specs.threshold.ColorBlocks.{AreBlocks}
+use Rattle.pix_table.specs.threshold.PaletteMatch.{difference_to, is_within}
+use Rattle.pix_table.specs.matching.BlockBounds.{AreBlockBounds}
 use Rattle.pix_palette.specs.declared.palette.palette_blocks.PaletteBlocks.{PaletteBlocks}
 use Rattle.pix_palette.specs.declared.palette.finder.Finder.{Finder}
 use Rattle.pix_palette.specs.declared.palette.threshold_search.ThresholdSearch.{ThresholdSearch}

@@ -5,9 +5,9 @@ use Rattle.pix_chan.specs.Modes.{GammaMode, Srgb, Straight}
 use Rattle.pix_el.specs.Model.{row, Rgb}
 use Rattle.pix_el.specs.Color.{rgb_itself}
 use Rattle.pix_el.specs.Conversion.{Format, converted}
-use Rattle.pix_table.specs.PaletteMatch.{difference_to}
-use Rattle.pix_table.specs.Setting.{Fits, IsSet}
-use Rattle.pix_table.specs.Indexing.{AreIndexed}
+use Rattle.pix_table.specs.threshold.PaletteMatch.{difference_to}
+use Rattle.pix_table.specs.threshold.Setting.{Fits, IsSet}
+use Rattle.pix_table.specs.threshold.Indexing.{AreIndexed}
 use Rattle.pix_raster.specs.Image.{Image}
 use Rattle.pix_palette.specs.Palette.{Color, numbers, Answers}
 

@@ -5,7 +5,7 @@ use Rattle.pix_chan.specs.declared.chan.bits8.Ch8.{Ch8}
 use Rattle.pix_chan.specs.declared.chan.modes.Srgb.{Srgb}
 use Rattle.pix_chan.specs.declared.chan.modes.Straight.{Straight}
 use Rattle.pix_el.specs.declared.rgb.Rgb.{Rgb}
-use Rattle.pix_table.specs.LookUp.{AreLookedUp}
+use Rattle.pix_table.specs.packing.LookUp.{AreLookedUp}
 use Rattle.pix_raster.specs.Image.{Image}
 use Rattle.pix_palette.specs.declared.palette.rgba_table.RgbaTable.{RgbaTable}
 

@@ -1,8 +1,8 @@
 //! Palettes: tables of colors, to which images are indexed.
 ghost use Rattle.std.specs.Prelude.{◌≡◌, ℕ, ◌+◌, ◌<◌, ◌≤◌, Some, None, IfSome, vec_len, IsOk, IfOk, IfErr, length, map, slice_get, true, MatchOption, slice_set, Any, nat_eq};
 ghost use Rattle.std.specs.Option.{option_map};
-ghost use Rattle.pix_table.specs.PaletteMatch.{IsMatch, IsMinimal, IsFirstOf};
-ghost use Rattle.pix_table.specs.Setting.{IsSet, StandsFor};
+ghost use Rattle.pix_table.specs.threshold.PaletteMatch.{IsMatch, IsMinimal, IsFirstOf};
+ghost use Rattle.pix_table.specs.threshold.Setting.{IsSet, StandsFor};
 ghost use Rattle.pix_palette.specs.Palette.{Answers, numbers};
 ghost use Rattle.pix_palette.specs.Histogram.{IsHistogram};
 ghost use Rattle.pix_raster.specs.declared.fault.RasterFault.{RasterFault};
@@ -49,8 +49,6 @@ impl Palette {
     /// let (red, blue) = (SRgb8::new::<u8>(200, 0, 0), SRgb8::new::<u8>(0, 0, 200));
     /// let mut palette = Palette::new(alloc, 16)?;
     /// palette.set_entry(red); // Some(0)
-    /// palette.set_entry(blue); // Some(1)
-    /// palette.set_entry(red); // Some(0): it stands there
     /// ```
     pub fn new(alloc: Global, limit: usize) -> Result<Palette, RasterFault>
         ensures colors { IfOk result (λ p. length p.colors.items ≡ 0) }
@@ -72,10 +70,9 @@ impl Palette {
     /// # Examples
     ///
     /// ```rust
+    /// palette.set_entry(blue); // Some(1)
+    /// palette.set_entry(red); // Some(0): it stands there
     /// let size = palette.len(); // 2
-    /// let second = palette.entry(1); // Some(blue)
-    /// let none = palette.entry(2); // None
-    /// palette.replace_entry(1, red); // Some(blue), which entry 1 was
     /// ```
     pub fn len(&self) -> usize
         ensures { result ≡ length self.now.colors.items }
@@ -98,8 +95,6 @@ impl Palette {
     /// let Ok(table) = Vec::from_slice(alloc, palette.colors()) else {
     ///     return Err(RasterFault::Memory);
     /// };
-    /// let bytes = image.to_u8_vec(alloc)?;
-    /// Ok(Some((table, bytes)))
     /// ```
     pub fn colors(&self) -> &[SRgb8]
         ensures { result.now ≡ self.now.colors.items }
@@ -115,7 +110,6 @@ impl Palette {
     /// let size = palette.len(); // 2
     /// let second = palette.entry(1); // Some(blue)
     /// let none = palette.entry(2); // None
-    /// palette.replace_entry(1, red); // Some(blue), which entry 1 was
     /// ```
     pub fn entry(&self, i: usize) -> Option<SRgb8>
         ensures { result ≡ slice_get self.now.colors.items i }
@@ -244,7 +238,6 @@ impl Palette {
     /// # Examples
     ///
     /// ```rust
-    /// let size = palette.len(); // 2
     /// let second = palette.entry(1); // Some(blue)
     /// let none = palette.entry(2); // None
     /// palette.replace_entry(1, red); // Some(blue), which entry 1 was

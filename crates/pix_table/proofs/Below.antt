@@ -2,7 +2,7 @@
 use Rattle.std.proofs.Common.{◌≡◌, ℕ, zero, suc, ◌+◌, ◌<◌, ◌≤◌, Bool, true, false, ◌&&◌, List, [], ◌∷◌, length, drop, get_or, arith, refl, sym, ap, ◌∙◌, inl, inr}
 use Rattle.std.proofs.lemmas.Bool.{lt-ltb, le-ltb, ltb-true, cases_lt, true≢false}
 use Rattle.std.proofs.lemmas.List.{drop_more, drop_all}
-use Rattle.pix_table.specs.LookUp.{all_below}
+use Rattle.pix_table.specs.packing.LookUp.{all_below}
 
 -- an index that is below is passed over
 pub below_more : (count : ℕ) (indices : List ℕ) (i : ℕ) → i < length indices → get_or indices i 0 < count

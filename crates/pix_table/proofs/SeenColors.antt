@@ -3,7 +3,7 @@ use Rattle.std.proofs.Common.{◌≡◌, ℕ, zero, suc, ◌+◌, ◌*◌, ◌/�
 use Rattle.std.proofs.Math.Nat.{lt-mul-div-succ, div-mul-le_self}
 use Rattle.pix_chan.specs.Product.{channel_product}
 use Rattle.pix_chan.specs.ProductLaws.{product_laws}
-use Rattle.pix_table.specs.Seen.{AreSeen, over_alpha, seen, straight}
+use Rattle.pix_table.specs.SeenPixels.{AreSeen, over_alpha, seen, straight}
 
 -- the product of a channel and an alpha is at most the alpha
 pub product_few : (x a : ℕ) → x ≤ 255 → a ≤ 255 → channel_product 255 x a ≤ a

@@ -1,6 +1,6 @@
 //! What a color needs.
 ghost use Rattle.std.specs.Prelude.{◌≡◌, ℕ, List, slice_index};
-ghost use Rattle.pix_table.specs.Nearest.{numbers, alpha_of};
+ghost use Rattle.pix_table.specs.matching.Nearest.{numbers, alpha_of};
 ghost use Rattle.pix_table.specs.SrgbColor.{srgb_numbers, srgba_numbers};
 
 use pix_el::el::Pixel;

@@ -1,6 +1,6 @@
 //! Error diffusion by Floyd and Steinberg, in whole numbers.
 ghost use Rattle.std.specs.Prelude.{◌≡◌, ℕ, ◌+◌, ◌-◌, ◌*◌, ◌%◌, ◌^◌, ◌<◌, ◌≤◌, List, [], length, map, true, slice_index_or, MatchOption};
-ghost use Rattle.pix_table.specs.Diffusion.{
+ghost use Rattle.pix_table.specs.diffuse.Diffusion.{
   AreDiffusedBy,
   AreShownAround,
   AreShownAroundBy,
@@ -8,17 +8,20 @@ ghost use Rattle.pix_table.specs.Diffusion.{
   in_picture,
   is_back,
 };
-ghost use Rattle.pix_table.specs.Done.{AreLatest, AreNeighborErrors, IsColorError, IsColorErrorAbove};
+ghost use Rattle.pix_table.specs.diffuse.Done.{AreLatest, AreNeighborErrors, IsColorError, IsColorErrorAbove};
 ghost use Rattle.pix_table.specs.declared.diffuse.ScanOrder.{ScanOrder};
 ghost use Rattle.pix_table.specs.declared.diffuse.ScanOrder.TheVariants.{Serpentine, LeftToRight};
 
 use crate::color::{Color, TableColor, TablePixel};
-use crate::diffused_color::{
+use crate::diffuse::diffused_color::{
     ColorError, DiffusedColor, FindsNearest, NO_ERROR, NeighborErrors, ShownAs,
 };
-use crate::error_bound::error_bound;
-use crate::matcher::visit_nearest;
-use crate::nearest_search::{NearestSearch, SearchVisitor};
+use crate::diffuse::error_bound::error_bound;
+use crate::matching::matcher::visit_nearest;
+use crate::matching::nearest_search::{NearestSearch, SearchVisitor};
+
+pub(crate) mod diffused_color;
+pub(crate) mod error_bound;
 
 /// How the pixels of a picture are indexed by error diffusion.
 #[derive(Clone, Copy, Debug, PartialEq, Eq)]
@@ -159,7 +162,9 @@ fn is_plain(how: Diffusion) -> bool
     }
 }
 
-/// Returns the same, so that the strength and the scan order are constants where it is used.
+/// Returns `how`, so that the strength and the scan order are constants where it is used.
+///
+/// Condition: whole errors are handed on, from left to right in each row.
 #[inline(always)]
 fn as_plain(how: Diffusion) -> Diffusion
     requires strength { how.strength ≡ 16 }
@@ -173,7 +178,12 @@ fn as_plain(how: Diffusion) -> Diffusion
     }
 }
 
-/// Does it with a row of the colors that were last wanted, and a row of those that were last found.
+/// Sets the index of each pixel by error diffusion, with a row of the colors that were last wanted,
+/// and a row of those that were last found.
+///
+/// Condition: a row has a pixel, both rows of colors are as long, at most 16 sixteenths are handed
+/// on, and there are as many indices as pixels. Where the scan order is serpentine, the rows of
+/// pixels are whole.
 #[inline(always)]
 pub(crate) fn diffuse_all<S, N, C, P>(
     search: &mut N,

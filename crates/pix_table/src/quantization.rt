@@ -3,16 +3,38 @@ ghost use Rattle.std.specs.Prelude.{◌≡◌, ◌⊎◌, ◌<◌, ◌≤◌, �
 ghost use Rattle.std.specs.Prelude.{MatchOption, IfNone, IsPermutation, false, slice_index_or, true};
 ghost use Rattle.std.specs.List.{list_any};
 ghost use Rattle.std.specs.Simd.{first_chunks};
-ghost use Rattle.pix_table.specs.Items.{IsItem, pair_items, spread, times_of};
-ghost use Rattle.pix_table.specs.Nearest.{numbers};
-ghost use Rattle.pix_table.specs.Quantization.{shown, same_color, distinct, IsQuantized};
-ghost use Rattle.pix_table.specs.Refine.{IsQuantizedRefined, IsRefinedCut};
+ghost use Rattle.pix_table.specs.quantization.Items.{IsItem, pair_items, spread, times_of};
+ghost use Rattle.pix_table.specs.matching.Nearest.{numbers};
+ghost use Rattle.pix_table.specs.quantization.Quantization.{shown, same_color, distinct, IsQuantized};
+ghost use Rattle.pix_table.specs.quantization.Grays.{IsLeastOr};
+ghost use Rattle.pix_table.specs.quantization.Refine.{IsQuantizedRefined, IsRefinedCut};
 
 use crate::color::{Color, TablePixel};
-use crate::color_items::cut_table;
-use crate::hints::Hints;
-use crate::items::{Counted, count_pairs};
-use crate::refine::{refine, refine_items};
+use crate::quantization::color_items::cut_table;
+use crate::quantization::grays::{are_grays, least_table};
+use crate::quantization::hints::Hints;
+use crate::quantization::items::{Counted, count_pairs};
+use crate::quantization::refine::{refine, refine_items};
+
+pub(crate) mod box_sums;
+pub(crate) mod by_value;
+pub(crate) mod color_items;
+pub(crate) mod cut;
+pub(crate) mod cutting;
+pub(crate) mod exchange;
+pub(crate) mod gray_error;
+pub(crate) mod gray_levels;
+pub(crate) mod gray_parts;
+pub(crate) mod grays;
+pub(crate) mod group;
+pub(crate) mod hints;
+pub(crate) mod items;
+pub(crate) mod joins;
+pub(crate) mod pieces;
+pub(crate) mod place;
+pub(crate) mod refine;
+pub(crate) mod sums64;
+pub(crate) mod weight;
 
 /// Returns how many colors of work memory [`quantize`] takes for this many pixels, which is the
 /// same number.
@@ -27,12 +49,13 @@ pub fn quantize_work(pixels: usize) -> usize
 /// where `work` has fewer colors than [`quantize_work`] says.
 ///
 /// Pixels whose alpha is below `alpha` do not count. With no more distinct colors than entries,
-/// they are the table, in order of first place. Else it is made by the cut by squared error: boxes
-/// of colors are cut where the squared error falls most, into twice as many as there are entries,
-/// but at most 64 more. Then pairs of boxes become one where it rises least, until there are no
-/// more of them than entries. A rise is a difference of quotients rounded down, and at least 0, so
-/// of pairs with nearly equal rises another one may be joined. Each entry is the mean of a box. The
-/// other entries may hold anything.
+/// they are the table, in order of first place. Else, of grays alone, it has the least squared
+/// error of all tables of at most so many entries. Else it is made by the cut by squared error:
+/// boxes of colors are cut where the squared error falls most, into twice as many as there are
+/// entries, but at most 64 more. Then pairs of boxes become one where it rises least, until there
+/// are no more of them than entries. A rise is a difference of quotients rounded down, and at least
+/// 0, so of pairs with nearly equal rises another one may be joined. Each entry is the mean of a
+/// box. The other entries may hold anything.
 pub fn quantize<P: TablePixel>(
     pixels: &[P],
     alpha: u8,
@@ -51,16 +74,18 @@ pub fn quantize<P: TablePixel>(
     quantize_refined(pixels, alpha, 0, work, entries)
 }
 
-/// Does what [`quantize`] does. Then `rounds` rounds, from 0 to 255, make the table fit
-/// better. It returns `None`, and changes nothing, where [`quantize`] does. A round takes
-/// about as long as matching each distinct color, so less than matching the pixels where colors
-/// come again.
+/// Writes a table of the colors of `pixels` into the first of the entries, makes it fit better by
+/// `rounds` rounds, from 0 to 255, and returns their number. It returns `None`, and changes
+/// nothing, where there is no entry or more than 256, or where `work` has fewer colors than
+/// [`quantize_work`] says. Without a round the table is that of [`quantize`], for which pixels
+/// whose alpha is below `alpha` do not count. A round takes about as long as matching each distinct
+/// color, so less than matching the pixels where colors come again.
 ///
 /// In a round each color goes to its nearest entry, the first of equals. Then each entry goes to
 /// the mean of its colors, to the nearest whole number in each channel, ties up. An entry without
 /// colors stays. No round makes the sum of the squared errors greater: of each pixel that counts,
 /// the squares of the differences to its nearest entry in red, green and blue. Distinct colors for
-/// which there is room are the table, and no round moves them.
+/// which there is room are the table, and no round moves them. Nor does one move a table of grays.
 ///
 /// The rounds are those of S. Lloyd, *Least squares quantization in PCM*, 1982.
 pub fn quantize_refined<P: TablePixel>(
@@ -104,7 +129,7 @@ fn quantize_shown<P: TablePixel>(
     let count = gather(pixels, alpha, work);
     match distinct(&work[..count], entries) {
         Some(made) => made,
-        None => cut_and_refine(pixels, alpha, rounds, work, count, entries),
+        None => made_table(pixels, alpha, rounds, work, count, entries),
     }
 }
 
@@ -123,6 +148,37 @@ fn gather<P: TablePixel>(pixels: &[P], alpha: u8, work: &mut [Color]) -> usize
         }
     }
     count
+}
+
+/// Writes the table into the first of the entries where there is no room for all distinct colors,
+/// and returns their number: that of grays where all are grays, and else that of the cut. The first
+/// `count` of `work` are the colors of the pixels whose alpha is not below `alpha`.
+///
+/// Condition: there is a color, and there are 1 to 256 entries.
+fn made_table<P: TablePixel>(
+    pixels: &[P],
+    alpha: u8,
+    rounds: u8,
+    work: &mut [Color],
+    count: usize,
+    entries: &mut [Color],
+) -> usize
+    requires work { length pixels.now ≤ length work.old }
+    requires inside { count ≤ length work.old }
+    requires some { 0 < count }
+    requires gathered { map numbers (take count work.old) ≡ shown alpha (map P.values pixels.now) }
+    requires room { 0 < length entries.old }
+    requires few { length entries.old ≤ 256 }
+    ensures within { result ≤ length entries.new }
+    ensures table { IsLeastOr (IsRefinedCut rounds (length entries.old)
+        (shown alpha (map P.values pixels.now)) (map numbers (take result entries.new)))
+        (length entries.old) (shown alpha (map P.values pixels.now))
+        (map numbers (take result entries.new)) }
+{
+    if are_grays(&work[..count]) {
+        return least_table(&work[..count], entries);
+    }
+    cut_and_refine(pixels, alpha, rounds, work, count, entries)
 }
 
 /// Writes the table of the cut into the first of the entries, moves them by `rounds` rounds, and

@@ -14,7 +14,7 @@ pub(crate) mod refine;
 pub(crate) mod sums;
 mod views;
 
-pub use crate::rgba::color::{RgbaColor, Seen};
+pub use crate::rgba::color::{RgbaColor, SeenColor};
 pub use crate::rgba::diffuse::{RgbaDiffusion, diffuse_indexed_rgba};
 pub use crate::rgba::matched::map_indexed_rgba;
 pub use crate::rgba::quantization::quantize_rgba;

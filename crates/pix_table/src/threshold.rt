@@ -1,16 +1,23 @@
 //! The entry that stands for a color, which is its match where that is within a threshold.
 ghost use Rattle.std.specs.Prelude.{◌≡◌, ◌<◌, ◌≤◌, length, map};
-ghost use Rattle.pix_table.specs.ColorBlocks.{IsBest};
-ghost use Rattle.pix_table.specs.Nearest.{numbers};
+ghost use Rattle.pix_table.specs.threshold.ColorBlocks.{IsBest};
+ghost use Rattle.pix_table.specs.matching.Nearest.{numbers};
 ghost use Rattle.pix_table.specs.SrgbColor.{srgb_numbers};
-ghost use Rattle.pix_table.specs.PaletteMatch.{IsMatch, color_difference, difference_to, is_closer, is_within};
-ghost use Rattle.pix_table.specs.Setting.{Always, StandsFor};
+ghost use Rattle.pix_table.specs.threshold.PaletteMatch.{IsMatch, color_difference, difference_to, is_closer, is_within};
+ghost use Rattle.pix_table.specs.threshold.Setting.{Always, StandsFor};
 
 use crate::color::{Color, TableColor};
 use crate::quantization::same;
 use pix_chan::chan::Ch8;
 use pix_el::el::Pix;
 use pix_el::rgb::{Rgb, SRgb8};
+
+pub(crate) mod color_block;
+pub(crate) mod color_cache;
+pub(crate) mod in_blocks;
+pub(crate) mod index;
+pub(crate) mod set;
+pub(crate) mod table_blocks;
 
 /// Returns a color as a pixel, whose model tells how far colors are apart.
 #[inline(always)]

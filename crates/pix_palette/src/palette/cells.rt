@@ -1,9 +1,9 @@
 //! The entries of a palette in cells of eight reds, eight greens and sixteen blues. Those near a
 //! color are in the few cells around it.
 ghost use Rattle.std.specs.Prelude.{◌≡◌, ◌+◌, ◌<◌, ◌≤◌, ℕ, List, [], ◌∷◌, length, map, true, false};
-ghost use Rattle.pix_table.specs.ColorBlocks.{IsBest, Lies};
-ghost use Rattle.pix_table.specs.Nearest.{numbers as color_numbers};
-ghost use Rattle.pix_table.specs.PaletteMatch.{color_difference, difference_to, is_within};
+ghost use Rattle.pix_table.specs.threshold.ColorBlocks.{IsBest, Lies};
+ghost use Rattle.pix_table.specs.matching.Nearest.{numbers as color_numbers};
+ghost use Rattle.pix_table.specs.threshold.PaletteMatch.{color_difference, difference_to, is_within};
 ghost use Rattle.pix_palette.specs.Palette.{numbers};
 ghost use Rattle.pix_palette.specs.Finder.{AreFar, AreLists, IsWhole, cell, steps};
 

@@ -1,8 +1,8 @@
 //! What a table of colors does.
 ghost use Rattle.std.specs.Prelude.{◌≡◌, ℕ, [], length, map, IfOk, IfErr, IfSome, IsOk, Some, nat_eq, slice_get};
 ghost use Rattle.std.specs.Option.{option_map};
-ghost use Rattle.pix_table.specs.Nearest.{IsNearestOf, IsFirst};
-ghost use Rattle.pix_table.specs.Setting.{Always, IsSet};
+ghost use Rattle.pix_table.specs.matching.Nearest.{IsNearestOf, IsFirst};
+ghost use Rattle.pix_table.specs.threshold.Setting.{Always, IsSet};
 ghost use Rattle.pix_palette.specs.Palette.{numbers};
 ghost use Rattle.pix_palette.specs.Indexing.{AreGray, colors_of, values};
 ghost use Rattle.pix_palette.specs.ColorTable.{entries_of, limit_of, IsIndexedIn};
@@ -32,7 +32,6 @@ impl ColorTable {
     /// let red = SRgb8::new::<u8>(200, 0, 0);
     /// let mut table = ColorTable::new(alloc, 256, SRgb8::new::<u8>(8, 8, 8))?;
     /// table.set_entry(red); // Some(0)
-    /// table.set_entry(SRgb8::new::<u8>(204, 0, 0)); // Some(0): it is near enough
     /// ```
     pub fn new(alloc: Global, limit: usize, threshold: SRgb8) -> Result<ColorTable, RasterFault>
         ensures entries { IfOk result (λ table. entries_of table ≡ []) }
@@ -55,9 +54,9 @@ impl ColorTable {
     /// # Examples
     ///
     /// ```rust
+    /// table.set_entry(SRgb8::new::<u8>(204, 0, 0)); // Some(0): it is near enough
     /// let size = table.len(); // 1, of at most table.limit()
     /// let first = table.entry(0); // Some(red), the first of table.colors()
-    /// let nearest = table.nearest(SRgb8::new::<u8>(0, 0, 9)); // Some(0): there is no other
     /// ```
     pub fn colors(&self) -> &[SRgb8]
         ensures { result.now ≡ entries_of self.now }
@@ -70,9 +69,9 @@ impl ColorTable {
     /// # Examples
     ///
     /// ```rust
+    /// table.set_entry(red); // Some(0)
+    /// table.set_entry(SRgb8::new::<u8>(204, 0, 0)); // Some(0): it is near enough
     /// let size = table.len(); // 1, of at most table.limit()
-    /// let first = table.entry(0); // Some(red), the first of table.colors()
-    /// let nearest = table.nearest(SRgb8::new::<u8>(0, 0, 9)); // Some(0): there is no other
     /// ```
     pub fn len(&self) -> usize
         ensures { result ≡ length (entries_of self.now) }
@@ -92,9 +91,9 @@ impl ColorTable {
     /// # Examples
     ///
     /// ```rust
+    /// table.set_entry(red); // Some(0)
+    /// table.set_entry(SRgb8::new::<u8>(204, 0, 0)); // Some(0): it is near enough
     /// let size = table.len(); // 1, of at most table.limit()
-    /// let first = table.entry(0); // Some(red), the first of table.colors()
-    /// let nearest = table.nearest(SRgb8::new::<u8>(0, 0, 9)); // Some(0): there is no other
     /// ```
     pub fn limit(&self) -> usize
         ensures { result ≡ limit_of self.now }
@@ -107,9 +106,9 @@ impl ColorTable {
     /// # Examples
     ///
     /// ```rust
+    /// table.set_entry(SRgb8::new::<u8>(204, 0, 0)); // Some(0): it is near enough
     /// let size = table.len(); // 1, of at most table.limit()
     /// let first = table.entry(0); // Some(red), the first of table.colors()
-    /// let nearest = table.nearest(SRgb8::new::<u8>(0, 0, 9)); // Some(0): there is no other
     /// ```
     pub fn entry(&self, i: usize) -> Option<SRgb8>
         ensures { result ≡ slice_get (entries_of self.now) i }
@@ -142,7 +141,11 @@ impl ColorTable {
 
     /// Sets a color, and returns its index. That is the index of its match, if the match is within
     /// the threshold. Else the color is appended. The answer is `None` where the limit is reached.
-    /// It takes no memory. The match is that of [`Palette::set_entry`](crate::Palette::set_entry).
+    /// It takes no memory.
+    ///
+    /// The match is the last of the candidates. Entry 0 is the first one. Each later entry is one
+    /// if it differs from the color by no more than the candidate before it in each of red, green
+    /// and blue, and by less in one.
     ///
     /// # Examples
     ///
@@ -177,7 +180,6 @@ impl ColorTable {
     /// let Some(indices) = table.index_pixels(alloc, picture)? else {
     ///     return Ok(None); // the table has no room for all colors
     /// };
-    /// table.look_up(alloc, &indices)
     /// ```
     pub fn index_pixels<S>(
         &mut self,

@@ -1,7 +1,7 @@
 //! Many colors, set in one call.
 ghost use Rattle.std.specs.Prelude.{◌≡◌, length};
 ghost use Rattle.std.specs.Option.{option_map};
-ghost use Rattle.pix_table.specs.Setting.{IsSet};
+ghost use Rattle.pix_table.specs.threshold.Setting.{IsSet};
 ghost use Rattle.pix_palette.specs.Palette.{Answers, numbers};
 ghost use Rattle.pix_palette.specs.Entries.{AreEntriesSet};
 

@@ -5,7 +5,7 @@
 //! place. The entries of a place are linked from the latest to the first. Where its memory is
 //! refused, all entries are looked at. No answer depends on it.
 ghost use Rattle.std.specs.Prelude.{◌≡◌, ◌<◌, ℕ, List, length, map, MatchOption, true};
-ghost use Rattle.pix_table.specs.PaletteMatch.{IsFirstOf};
+ghost use Rattle.pix_table.specs.threshold.PaletteMatch.{IsFirstOf};
 ghost use Rattle.pix_palette.specs.Palette.{numbers};
 ghost use Rattle.pix_palette.specs.Finder.{AreLists, Follows, IsNowhere, IsWhole, place};
 
@@ -28,7 +28,9 @@ const MORE: usize = 2048;
 /// The entries by the places of their colors, and what finds an entry near a color.
 #[derive(Drop)]
 pub(super) struct Finder {
+    /// The entries by the places of their colors.
     pub(super) lists: Lists,
+    /// What finds an entry near a color.
     pub(super) near: ThresholdSearch,
     room: usize,
     compared: usize,

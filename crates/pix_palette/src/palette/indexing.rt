@@ -1,9 +1,9 @@
 //! Images of indices into a palette.
 ghost use Rattle.std.specs.Prelude.{◌≡◌, Some, None, length, map, true, if◌then◌else◌, IfOk, IfErr};
 ghost use Rattle.std.specs.Option.{option_map};
-ghost use Rattle.pix_table.specs.ColorCache.{AreRight};
-ghost use Rattle.pix_table.specs.Setting.{IsSet};
-ghost use Rattle.pix_table.specs.Indexing.{IsSetUpTo, AreIndexed};
+ghost use Rattle.pix_table.specs.threshold.ColorCache.{AreRight};
+ghost use Rattle.pix_table.specs.threshold.Setting.{IsSet};
+ghost use Rattle.pix_table.specs.threshold.Indexing.{IsSetUpTo, AreIndexed};
 ghost use Rattle.pix_palette.specs.Palette.{Answers, numbers};
 ghost use Rattle.pix_palette.specs.Finder.{Follows};
 ghost use Rattle.pix_palette.specs.Indexing.{IsIndexed, AreGray, colors_of, values};

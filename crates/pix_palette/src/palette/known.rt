@@ -1,9 +1,9 @@
 //! Colors that are cached beside a palette while an image is indexed.
 ghost use Rattle.std.specs.Prelude.{◌≡◌, ℕ, List, [], ◌∷◌, map, true};
 ghost use Rattle.std.specs.Option.{option_map};
-ghost use Rattle.pix_table.specs.ColorCache.{AreRight};
-ghost use Rattle.pix_table.specs.Nearest.{numbers as color_numbers};
-ghost use Rattle.pix_table.specs.Setting.{IsSet, StandsFor};
+ghost use Rattle.pix_table.specs.threshold.ColorCache.{AreRight};
+ghost use Rattle.pix_table.specs.matching.Nearest.{numbers as color_numbers};
+ghost use Rattle.pix_table.specs.threshold.Setting.{IsSet, StandsFor};
 ghost use Rattle.pix_palette.specs.Palette.{Answers, numbers};
 ghost use Rattle.pix_palette.specs.Finder.{Follows, HasThresholdSearch, IsNowhere, IsWhole};
 
@@ -82,7 +82,9 @@ impl Palette {
         Finder::new(alloc, most.min(self.limit))
     }
 
-    /// Sets a color as `set_entry` does. A cached color takes no search.
+    /// Sets a color, and returns its index: that of the entry that stands for it, or that of the
+    /// color, which is then appended. The answer is `None` where the limit is reached. A cached
+    /// color takes no search.
     pub(super) fn set_known(
         &mut self,
         alloc: Global,

@@ -17,7 +17,9 @@ const MOST: usize = 4294967295;
 /// or 0 where there is none.
 #[derive(Drop)]
 pub(super) struct Lists {
+    /// The latest entry of each place.
     pub(super) latest: Vec<u32>,
+    /// For each entry the one before it.
     pub(super) earlier: Vec<u32>,
     asked: bool,
 }

@@ -1,7 +1,7 @@
 //! Images of indices of the nearest entries of a table, and back to colors.
 ghost use Rattle.std.specs.Prelude.{◌≡◌, ◌<◌, ◌≤◌, ◌⊎◌, ℕ, [], length, map, true, false, IfOk, IfErr, IsOk, MatchOption, slice_index, slice_index_or};
-ghost use Rattle.pix_table.specs.Nearest.{IsNearest};
-ghost use Rattle.pix_table.specs.LookUp.{AreLookedUp, all_below};
+ghost use Rattle.pix_table.specs.matching.Nearest.{IsNearest};
+ghost use Rattle.pix_table.specs.packing.LookUp.{AreLookedUp, all_below};
 ghost use Rattle.pix_palette.specs.Palette.{numbers};
 ghost use Rattle.pix_palette.specs.Indexing.{AreGray, colors_of, values};
 ghost use Rattle.pix_palette.specs.ColorTable.{entries_of, IsMapped, IsLookedUp};

@@ -3,7 +3,7 @@
 //! Their memory is allocated once. Where that fails there are none. No answer depends on their
 //! number.
 ghost use Rattle.std.specs.Prelude.{◌≡◌, ℕ, List, [], ◌∷◌, ◌++◌, map, true, false};
-ghost use Rattle.pix_table.specs.BlockBounds.{AreBlockBounds};
+ghost use Rattle.pix_table.specs.matching.BlockBounds.{AreBlockBounds};
 ghost use Rattle.pix_palette.specs.Finder.{HasBlocks};
 ghost use Rattle.pix_palette.specs.Palette.{numbers};
 
@@ -17,7 +17,9 @@ const SIZE: usize = 16;
 /// Blocks of the first entries, sixteen each, and the bounds of those blocks.
 #[derive(Drop)]
 pub(super) struct PaletteBlocks {
+    /// The bounds of the blocks.
     pub(super) spans: Vec<BlockBounds>,
+    /// The blocks.
     pub(super) blocks: Vec<ColorBlock>,
     room: usize,
     asked: bool,

@@ -1,9 +1,9 @@
 //! Tables of the colors of a picture, and images of its indices by alpha and by error diffusion.
 ghost use Rattle.std.specs.Prelude.{◌≡◌, ◌<◌, ◌≤◌, ◌⊎◌, ◌*◌, ◌%◌, ◌∷◌, [], length, map, take};
 ghost use Rattle.std.specs.Prelude.{IfOk, IfErr, IfSome, IsOk, MatchOption};
-ghost use Rattle.pix_table.specs.Nearest.{numbers as color_numbers, AreMatched};
-ghost use Rattle.pix_table.specs.Diffusion.{AreDiffused, AreDiffusedBy, AreShownAround};
-ghost use Rattle.pix_table.specs.Quantization.{shown};
+ghost use Rattle.pix_table.specs.matching.Nearest.{numbers as color_numbers, AreMatched};
+ghost use Rattle.pix_table.specs.diffuse.Diffusion.{AreDiffused, AreDiffusedBy, AreShownAround};
+ghost use Rattle.pix_table.specs.quantization.Quantization.{shown};
 ghost use Rattle.pix_table.specs.SrgbColor.{srgba_numbers};
 ghost use Rattle.pix_palette.specs.Palette.{numbers};
 ghost use Rattle.pix_palette.specs.Indexing.{AreGray, shades_of, values};
@@ -32,9 +32,9 @@ pub(super) const WHOLE: u8 = 16;
 
 impl ColorTable {
     /// Makes a table of the colors of a raster, of at most `limit` entries. Where the raster has no
-    /// more distinct colors than that, the entries are those colors in order of first place. Else
-    /// they are the means of boxes of colors, by the cut by squared error. Returns `None`
-    /// where the limit is 0 or above 256.
+    /// more distinct colors than that, the entries are those colors in order of first place. Else,
+    /// of grays alone, no table of so many has a smaller squared error. Else they are the means of
+    /// boxes, by the cut by squared error. Returns `None` where the limit is 0 or above 256.
     ///
     /// Pixels whose alpha is below `alpha` do not count. With an `alpha` of 0 every pixel counts.
     /// To keep an index for the others, make a table of one entry less than there may be indices.
@@ -50,7 +50,6 @@ impl ColorTable {
     /// let Some(table) = ColorTable::quantize(alloc, picture, 255, 128)? else {
     ///     return Ok(None); // not for 255 entries
     /// };
-    /// table.diffuse_indexed(alloc, picture, 128, 255) // index 255 where the alpha is below 128
     /// ```
     pub fn quantize<S>(
         alloc: Global,
@@ -72,10 +71,10 @@ impl ColorTable {
         quantized_table(alloc, shades.pixels(), limit, alpha, 0)
     }
 
-    /// Does what [`ColorTable::quantize`] does. Where there are more distinct colors than
-    /// `limit`, `rounds` rounds then refine the table. In a round each color goes to its nearest
-    /// entry, the first of equals. Each entry goes to the mean of its colors, rounded, and stays
-    /// where it has none. No round makes the sum of the squared errors greater.
+    /// Makes a table by [`ColorTable::quantize`], and refines the means of boxes by `rounds`
+    /// rounds. In a round each color goes to its nearest entry, the first of equals, and each entry
+    /// to the rounded mean of its colors, if any. No round makes the sum of the squared errors
+    /// greater. Returns `None` for a limit of 0 or above 256.
     ///
     /// # Errors
     ///
@@ -87,7 +86,6 @@ impl ColorTable {
     /// let Some(table) = ColorTable::quantize_refined(alloc, picture, 255, 128, 4)? else {
     ///     return Ok(None); // not for 255 entries
     /// };
-    /// table.map_indexed_alpha(alloc, picture, 128, 255) // index 255 where the alpha is below 128
     /// ```
     pub fn quantize_refined<S>(
         alloc: Global,
@@ -220,9 +218,11 @@ impl ColorTable {
         )
     }
 
-    /// Does what [`ColorTable::diffuse_indexed`] does, with `strength` sixteenths of each error,
-    /// and in a scan order. If that is serpentine, every second row goes from right to left, and
-    /// the shares are mirrored in it. Returns `None` also where the strength is above 16.
+    /// Makes a raster of indices by error diffusion. The value of each pixel is the index of the
+    /// entry nearest to its color plus `strength` sixteenths of its share of the errors before it,
+    /// in a scan order. If that is serpentine, every second row goes from right to left, and the
+    /// shares are mirrored. Pixels below `alpha` get `transparent_index`, and hand on no error.
+    /// Returns `None` where there is no entry, or more than 256, or the strength is above 16.
     ///
     /// # Errors
     ///
@@ -279,8 +279,8 @@ impl ColorTable {
     }
 }
 
-/// Makes a raster of indices by error diffusion, as [`ColorTable::diffuse_indexed_by`] does with an
-/// alpha, a transparent index and a strength.
+/// Makes a raster of indices by error diffusion to the entries `colors`. Returns `None` where there
+/// is no entry, or more than 256. Condition: the strength is at most 16.
 fn diffused_image<S>(
     colors: &[SRgb8],
     alloc: Global,
@@ -341,7 +341,7 @@ where
     Ok(copy)
 }
 
-/// Makes a table of pixels, as [`ColorTable::quantize_refined`] does.
+/// Makes a refined table of pixels, or returns `None` for a limit of 0 or above 256.
 fn quantized_table(
     alloc: Global,
     pixels: &[SRgba8],

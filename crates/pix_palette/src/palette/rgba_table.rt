@@ -1,10 +1,10 @@
 //! Tables of colors with an alpha, and images of their indices.
 ghost use Rattle.std.specs.Prelude.{◌≡◌, ◌<◌, ◌≤◌, ◌⊎◌, ◌%◌, [], false, length, map, nat_eq};
 ghost use Rattle.std.specs.Prelude.{IfOk, IfErr, IfSome, IsOk, MatchOption};
-ghost use Rattle.pix_table.specs.LookUp.{all_below};
-ghost use Rattle.pix_table.specs.Seen.{rgba_numbers, AreSeenMatched};
-ghost use Rattle.pix_table.specs.SeenDiffusion.{AreSeenAround, AreSeenDiffused};
-ghost use Rattle.pix_table.specs.SeenTables.{IsQuantizedRgba};
+ghost use Rattle.pix_table.specs.packing.LookUp.{all_below};
+ghost use Rattle.pix_table.specs.SeenPixels.{rgba_numbers, AreSeenMatched};
+ghost use Rattle.pix_table.specs.diffuse.SeenDiffusion.{AreSeenAround, AreSeenDiffused};
+ghost use Rattle.pix_table.specs.quantization.SeenTables.{IsQuantizedRgba};
 ghost use Rattle.pix_table.specs.SrgbColor.{srgba_numbers};
 ghost use Rattle.pix_palette.specs.Indexing.{shades_of, values};
 ghost use Rattle.pix_palette.specs.ColorTable.{IsIndexImage};
@@ -20,7 +20,7 @@ use pix_el::el::{Pix, Pixel};
 use pix_el::rgb::SRgba8;
 use pix_raster::{Raster, RasterFault};
 use pix_table::{
-    RgbaColor, RgbaDiffusion, ScanOrder, Seen, diffuse_indexed_rgba, map_indexed_rgba,
+    RgbaColor, RgbaDiffusion, ScanOrder, SeenColor, diffuse_indexed_rgba, map_indexed_rgba,
     quantize_rgba,
 };
 use std::alloc::Global;
@@ -68,10 +68,6 @@ impl RgbaTable {
     /// let Some(table) = RgbaTable::quantize(alloc, picture, 256, 4)? else {
     ///     return Ok(None); // not for 256 entries
     /// };
-    /// let Some(indices) = table.map_indexed(alloc, picture)? else {
-    ///     return Ok(None); // the table has no entry
-    /// };
-    /// table.look_up(alloc, &indices)
     /// ```
     pub fn quantize<S>(
         alloc: Global,
@@ -172,7 +168,6 @@ impl RgbaTable {
     /// let Some(indices) = table.map_indexed(alloc, picture)? else {
     ///     return Ok(None); // the table has no entry
     /// };
-    /// table.look_up(alloc, &indices)
     /// ```
     pub fn map_indexed<S>(
         &self,
@@ -305,7 +300,8 @@ impl RgbaTable {
     }
 }
 
-/// Makes a table of pixels, as [`RgbaTable::quantize`] does.
+/// Makes a table of the colors of pixels, of at most `limit` entries, and refines it by `rounds`
+/// rounds. Returns `None` where the limit is 0 or above 256.
 fn quantized_rgba_table(
     alloc: Global,
     pixels: &[SRgba8],
@@ -322,7 +318,7 @@ fn quantized_rgba_table(
     if limit == 0 || limit > ENTRIES {
         return Ok(None);
     }
-    let mut work = copies(alloc, Seen::default(), pixels.len())?;
+    let mut work = copies(alloc, SeenColor::default(), pixels.len())?;
     let mut room = [RgbaColor::default(); ENTRIES];
     let entries = &mut room[..limit];
     let Some(len) = quantize_rgba(pixels, rounds, &mut work, entries) else {
@@ -409,11 +405,11 @@ fn rgba_diffused(
             strength: how.strength,
             scan: how.scan,
         };
-        let mut work = [Seen::default(); 4];
+        let mut work = [SeenColor::default(); 4];
         diffuse_indexed_rgba(colors, pixels, rows, &mut work, &mut indices);
         return Ok(Some(indices));
     }
-    let mut work = vec![in alloc; Seen::default(); 4 * how.width]?;
+    let mut work = vec![in alloc; SeenColor::default(); 4 * how.width]?;
     diffuse_indexed_rgba(colors, pixels, how, &mut work, &mut indices);
     Ok(Some(indices))
 }

@@ -4,8 +4,7 @@ ghost use Rattle.std.specs.Prelude.{◌≤◌, vec_len};
 use pix_el::rgb::SRgb8;
 
 /// A list of colors, no more than its limit, with a constant threshold. Setting a color finds one
-/// of them within the threshold, or adds the color, as
-/// [`Palette::set_entry`](crate::Palette::set_entry) does.
+/// of them within the threshold, or adds the color.
 ///
 /// # Examples
 ///
@@ -17,8 +16,11 @@ use pix_el::rgb::SRgb8;
 /// ```
 #[derive(Drop)]
 pub struct ColorTable {
+    /// The colors, and behind them room for as many as the limit allows.
     pub(super) slots: Vec<SRgb8>,
+    /// How many colors there are.
     pub(super) len: usize,
+    /// How far a color may be from its match in each channel.
     pub(super) threshold: SRgb8,
     ghost bounded: { len ≤ vec_len slots },
 }

@@ -1,7 +1,7 @@
 //! Colors that are set in memory that a caller lends.
 ghost use Rattle.std.specs.Prelude.{◌≡◌, ◌≤◌, length, take, Some, None, true, if◌then◌else◌};
-ghost use Rattle.pix_table.specs.Setting.{Always, IsSet};
-ghost use Rattle.pix_table.specs.Indexing.{AreIndexed};
+ghost use Rattle.pix_table.specs.threshold.Setting.{Always, IsSet};
+ghost use Rattle.pix_table.specs.threshold.Indexing.{AreIndexed};
 ghost use Rattle.pix_palette.specs.Palette.{numbers};
 ghost use Rattle.pix_palette.specs.Indexing.{AreGray, colors_of, values};
 

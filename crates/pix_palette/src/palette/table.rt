@@ -10,7 +10,9 @@ pub type Threshold = fn(usize) -> SRgb8;
 /// A threshold function that may be called for every number of entries up to a limit.
 #[derive(Clone, Copy)]
 pub struct ThresholdFn {
+    /// The function.
     pub(super) f: Threshold,
+    /// The limit.
     pub(super) limit: usize,
     ghost callable: { (n : ℕ) → n ≤ limit → Threshold.pre f n },
 }
@@ -29,8 +31,11 @@ pub struct ThresholdFn {
 /// ```
 #[derive(Drop)]
 pub struct Palette {
+    /// The colors.
     pub(super) colors: Vec<SRgb8>,
+    /// How many colors there may be.
     pub(super) limit: usize,
+    /// The threshold function, if it was set.
     pub(super) threshold: Option<ThresholdFn>,
     ghost bounded: { vec_len colors ≤ limit },
     ghost reserved: { limit ≤ vec_capacity colors },

@@ -3,9 +3,9 @@
 //! Each allocates its memory once. Where that fails the search takes longer. No answer depends on
 //! it.
 ghost use Rattle.std.specs.Prelude.{◌≡◌, ◌+◌, ◌<◌, ℕ, List, length, map, true, false};
-ghost use Rattle.pix_table.specs.Nearest.{numbers as color_numbers};
-ghost use Rattle.pix_table.specs.PaletteMatch.{IsMatch, difference_to, is_within};
-ghost use Rattle.pix_table.specs.Setting.{Always, StandsFor};
+ghost use Rattle.pix_table.specs.matching.Nearest.{numbers as color_numbers};
+ghost use Rattle.pix_table.specs.threshold.PaletteMatch.{IsMatch, difference_to, is_within};
+ghost use Rattle.pix_table.specs.threshold.Setting.{Always, StandsFor};
 ghost use Rattle.pix_palette.specs.Finder.{HasThresholdSearch, IsWhole};
 ghost use Rattle.pix_palette.specs.Palette.{numbers};
 
@@ -24,7 +24,9 @@ const MANY: usize = 100;
 /// The entries by cells, and blocks of the first entries.
 #[derive(Drop)]
 pub(super) struct ThresholdSearch {
+    /// The entries by cells.
     pub(super) cells: Lists,
+    /// The blocks of the first entries.
     pub(super) blocks: PaletteBlocks,
     room: usize,
 }
@@ -105,8 +107,8 @@ impl ThresholdSearch {
         self.cells.closest_after(colors, clr, first)
     }
 
-    /// Returns the entry that stands for a color, as [`standing`](pix_table::standing) does. Where
-    /// no entry is near there is none, and then no blocks are made.
+    /// Returns the entry that stands for a color. That is its match, if the match is within the
+    /// threshold, and else `None`. Where no entry is near, no blocks are made.
     ///
     /// Condition: the lists have all entries.
     fn standing_whole(
@@ -138,8 +140,9 @@ impl ThresholdSearch {
         }
     }
 
-    /// Returns the entry that stands for a color, as [`standing`](pix_table::standing) does. It
-    /// uses cells and blocks, or blocks alone, as far as there is memory.
+    /// Returns the entry that stands for a color. That is its match, if the match is within the
+    /// threshold, and else `None`. It uses cells and blocks, or blocks alone, as far as there is
+    /// memory.
     pub(super) fn standing(
         &mut self,
         alloc: Global,

@@ -1,7 +1,7 @@
 //! Colors with an alpha, and how they are seen.
 ghost use Rattle.std.specs.Prelude.{◌≡◌, ◌≤◌};
 ghost use Rattle.pix_chan.specs.Product.{channel_product};
-ghost use Rattle.pix_table.specs.Seen.{
+ghost use Rattle.pix_table.specs.SeenPixels.{
   AreSeen,
   over_alpha,
   rgba_numbers,
@@ -9,7 +9,7 @@ ghost use Rattle.pix_table.specs.Seen.{
   seen_numbers,
   straight,
 };
-ghost use Rattle.pix_table.specs.SeenTables.{same_seen};
+ghost use Rattle.pix_table.specs.quantization.SeenTables.{same_seen};
 
 use crate::color::{Color, TablePixel};
 use pix_chan::chan::Ch8;
@@ -47,7 +47,7 @@ impl TablePixel for RgbaColor {
 /// A pixel as it is seen over black: red, green and blue times its alpha, and the alpha.
 #[repr(C)]
 #[derive(Clone, Copy, Debug, Default, PartialEq, Eq)]
-pub struct Seen {
+pub struct SeenColor {
     /// The red channel times the alpha.
     pub red: u8,
     /// The green channel times the alpha.
@@ -60,7 +60,7 @@ pub struct Seen {
 
 /// Returns whether two colors are the same.
 #[inline(always)]
-pub(crate) fn same(p: Seen, q: Seen) -> bool
+pub(crate) fn same(p: SeenColor, q: SeenColor) -> bool
     ensures { result ≡ same_seen (seen_numbers p) (seen_numbers q) }
 {
     p.red == q.red && p.green == q.green && p.blue == q.blue && p.alpha == q.alpha
@@ -68,13 +68,13 @@ pub(crate) fn same(p: Seen, q: Seen) -> bool
 
 /// Returns how a pixel is seen.
 #[inline(always)]
-pub(crate) fn seen_of<P: TablePixel>(pixel: P) -> Seen
+pub(crate) fn seen_of<P: TablePixel>(pixel: P) -> SeenColor
     ensures numbers { seen_numbers result ≡ seen (P.values pixel) }
     ensures seen { AreSeen (seen_numbers result) }
 {
     let color = pixel.rgb();
     let alpha = pixel.alpha();
-    Seen {
+    SeenColor {
         red: product(color.red, alpha),
         green: product(color.green, alpha),
         blue: product(color.blue, alpha),
@@ -92,7 +92,7 @@ fn product(number: u8, alpha: u8) -> u8
 }
 
 /// Returns the color that is seen as `color`, not multiplied by its alpha.
-pub(crate) fn straight(color: Seen) -> RgbaColor
+pub(crate) fn straight(color: SeenColor) -> RgbaColor
     requires { AreSeen (seen_numbers color) }
     ensures { rgba_numbers result ≡ straight (seen_numbers color) }
 {

@@ -1,17 +1,17 @@
 //! Error diffusion of colors with an alpha.
 ghost use Rattle.std.specs.Prelude.{◌≡◌, ℕ, ◌*◌, ◌%◌, ◌<◌, ◌≤◌, List, length, map, min, refl};
-ghost use Rattle.pix_table.specs.Seen.{AreSeen, seen, seen_distance, seen_numbers};
-ghost use Rattle.pix_table.specs.SeenDiffusion.{AreSeenAround, AreSeenDiffused, seen_of_channels};
-ghost use Rattle.pix_table.specs.NearLaws.{seen_near};
-ghost use Rattle.pix_table.specs.SeenLanes.{AreSeenLanes};
+ghost use Rattle.pix_table.specs.SeenPixels.{AreSeen, seen, seen_distance, seen_numbers};
+ghost use Rattle.pix_table.specs.diffuse.SeenDiffusion.{AreSeenAround, AreSeenDiffused, seen_of_channels};
+ghost use Rattle.pix_table.specs.diffuse.NearLaws.{seen_near};
+ghost use Rattle.pix_table.specs.matching.SeenLanes.{AreSeenLanes};
 ghost use Rattle.pix_table.specs.declared.diffuse.ScanOrder.TheVariants.{Serpentine};
 
 use crate::color::TablePixel;
-use crate::diffuse::{Diffusion, ScanOrder, diffuse_all};
-use crate::diffused_color::{
+use crate::diffuse::diffused_color::{
     ColorError, DiffusedColor, FindsNearest, NeighborErrors, ShownAs, corrected, handed, held,
 };
-use crate::rgba::color::{Seen, seen_of};
+use crate::diffuse::{Diffusion, ScanOrder, diffuse_all};
+use crate::rgba::color::{SeenColor, seen_of};
 use crate::rgba::lanes::SeenLanes;
 use crate::rgba::matched::seen_entries;
 
@@ -26,9 +26,11 @@ pub struct RgbaDiffusion {
     pub scan: ScanOrder,
 }
 
-/// Sets the index of each pixel by error diffusion, as [`diffuse_indexed`] does, to a table of
-/// colors with an alpha. The index is that of the entry that is seen nearest to the pixel plus its
-/// share of the errors of the pixels before it.
+/// Sets the index of each pixel by error diffusion to a table of colors with an alpha. The index is
+/// that of the entry that is seen nearest to the pixel plus its share of the errors of the pixels
+/// before it. The next pixel of the row gets 7 sixteenths of an error, the one below the pixel
+/// before it 3, the one below it 5, and the one below the next 1. Each gets `how.strength`
+/// sixteenths of its share.
 ///
 /// Errors are handed on in red, green and blue over black, and in the alpha, each held to the bound
 /// of what the entries are seen as. What is wanted at a pixel is above its alpha in no channel. A
@@ -38,13 +40,11 @@ pub struct RgbaDiffusion {
 /// Condition: there is at least one entry and at most 256, a row has a pixel, at most 16 sixteenths
 /// are handed on, there are as many indices as pixels, and `work` has four rows of colors. Where
 /// the scan order is serpentine, the rows are whole.
-///
-/// [`diffuse_indexed`]: crate::diffuse_indexed
 pub fn diffuse_indexed_rgba<E: TablePixel, P: TablePixel>(
     entries: &[E],
     pixels: &[P],
     how: RgbaDiffusion,
-    work: &mut [Seen],
+    work: &mut [SeenColor],
     indices: &mut [u8],
 )
     requires some { 0 < length entries.now }
@@ -66,7 +66,7 @@ pub fn diffuse_indexed_rgba<E: TablePixel, P: TablePixel>(
     let how = Diffusion {
         width: how.width,
         alpha: 1,
-        transparent_index: lanes.nearest(Seen::none()),
+        transparent_index: lanes.nearest(SeenColor::none()),
         strength: how.strength,
         scan: how.scan,
     };
@@ -81,25 +81,25 @@ pub fn diffuse_indexed_rgba<E: TablePixel, P: TablePixel>(
     );
 }
 
-impl FindsNearest<Seen> for SeenLanes {
+impl FindsNearest<SeenColor> for SeenLanes {
     ghost among = { λ lanes entries. AreSeenLanes entries lanes };
 
     #[inline(always)]
-    fn find(&mut self, clr: Seen) -> u8 {
+    fn find(&mut self, clr: SeenColor) -> u8 {
         self.nearest(clr)
     }
 }
 
-impl ShownAs<Seen> for Seen {
+impl ShownAs<SeenColor> for SeenColor {
     ghost shown = { seen_numbers };
 
     #[inline(always)]
-    fn shown(self) -> Seen {
+    fn shown(self) -> SeenColor {
         self
     }
 }
 
-impl DiffusedColor for Seen {
+impl DiffusedColor for SeenColor {
     ghost spread = { seen_numbers };
 
     ghost of_channels = { seen_of_channels };
@@ -115,8 +115,8 @@ impl DiffusedColor for Seen {
     ghost channels = { 4 };
 
     #[inline(always)]
-    fn none() -> Seen {
-        Seen {
+    fn none() -> SeenColor {
+        SeenColor {
             red: 0,
             green: 0,
             blue: 0,
@@ -135,8 +135,8 @@ impl DiffusedColor for Seen {
     }
 
     #[inline(always)]
-    fn held(self, bound: u8, entry: Seen) -> Seen {
-        Seen {
+    fn held(self, bound: u8, entry: SeenColor) -> SeenColor {
+        SeenColor {
             red: held(bound, self.red, entry.red),
             green: held(bound, self.green, entry.green),
             blue: held(bound, self.blue, entry.blue),
@@ -145,7 +145,7 @@ impl DiffusedColor for Seen {
     }
 
     #[inline(always)]
-    fn missed(self, found: Seen) -> ColorError {
+    fn missed(self, found: SeenColor) -> ColorError {
         ColorError {
             red: 255 + u16::from(self.red) - u16::from(found.red),
             green: 255 + u16::from(self.green) - u16::from(found.green),
@@ -161,7 +161,7 @@ impl DiffusedColor for Seen {
         how: Diffusion,
         near: NeighborErrors,
         right_above: ColorError,
-    ) -> Seen {
+    ) -> SeenColor {
         let NeighborErrors {
             left,
             left_above: corner,
@@ -189,7 +189,7 @@ impl DiffusedColor for Seen {
             how.strength,
             handed(scan, left.blue, corner.blue, above.blue, next.blue),
         );
-        Seen {
+        SeenColor {
             red: at_most(red, alpha),
             green: at_most(green, alpha),
             blue: at_most(blue, alpha),

@@ -1,11 +1,11 @@
 //! Where an entry goes, by the sums of the seen colors that go to it.
 ghost use Rattle.std.specs.Prelude.{◌≡◌, ℕ, ◌+◌, ◌-◌, ◌*◌, ◌<◌, ◌≤◌, List, nat_le};
-ghost use Rattle.pix_table.specs.Seen.{AreSeen, seen_numbers};
-ghost use Rattle.pix_table.specs.SeenCut.{seen_mean};
-ghost use Rattle.pix_table.specs.SeenGroups.{AreGroupSums, product_by};
-ghost use Rattle.pix_table.specs.SeenTables.{error_to, seen_settled};
+ghost use Rattle.pix_table.specs.SeenPixels.{AreSeen, seen_numbers};
+ghost use Rattle.pix_table.specs.quantization.SeenCut.{seen_mean};
+ghost use Rattle.pix_table.specs.quantization.SeenGroups.{AreGroupSums, product_by};
+ghost use Rattle.pix_table.specs.quantization.SeenTables.{error_to, seen_settled};
 
-use crate::rgba::color::Seen;
+use crate::rgba::color::SeenColor;
 use crate::rgba::sums::SeenSums;
 
 /// Numbers over black, and what white adds to each: of a color, or sums of those of colors.
@@ -19,7 +19,7 @@ struct Terms {
 
 /// Returns where an entry goes, by the sums of its colors: to their mean, where that makes their
 /// squared error no greater. Else it stays.
-pub(crate) fn settled(sums: SeenSums, entry: Seen) -> Seen
+pub(crate) fn settled(sums: SeenSums, entry: SeenColor) -> SeenColor
     requires sums { (group : List (List ℕ)) × AreGroupSums group sums }
     requires entry { AreSeen (seen_numbers entry) }
     ensures settled { (group : List (List ℕ)) → AreGroupSums group sums
@@ -38,7 +38,7 @@ pub(crate) fn settled(sums: SeenSums, entry: Seen) -> Seen
 }
 
 /// Returns the mean of some colors by their sums. Condition: there is a color.
-fn mean_of(sums: SeenSums) -> Seen
+fn mean_of(sums: SeenSums) -> SeenColor
     requires some { 0 < sums.count }
     requires sums { (group : List (List ℕ)) × AreGroupSums group sums }
     ensures mean { (group : List (List ℕ)) → AreGroupSums group sums
@@ -49,7 +49,7 @@ fn mean_of(sums: SeenSums) -> Seen
 }
 
 /// Returns whether the squared error of some colors to one color is not above that to another.
-fn is_no_worse(sums: SeenSums, new: Seen, old: Seen) -> bool
+fn is_no_worse(sums: SeenSums, new: SeenColor, old: SeenColor) -> bool
     requires sums { (group : List (List ℕ)) × AreGroupSums group sums }
     requires new { AreSeen (seen_numbers new) }
     requires old { AreSeen (seen_numbers old) }
@@ -71,7 +71,7 @@ fn is_no_worse(sums: SeenSums, new: Seen, old: Seen) -> bool
 
 impl Terms {
     /// Returns those of a color.
-    fn of(clr: Seen) -> Terms
+    fn of(clr: SeenColor) -> Terms
         requires { AreSeen (seen_numbers clr) }
         ensures red { result.red ≡ clr.red }
         ensures green { result.green ≡ clr.green }

@@ -1,23 +1,23 @@
 //! Items of seen colors, each a color and one that stands for its count: their boxes and their
 //! cut.
 ghost use Rattle.std.specs.Prelude.{◌≡◌, ◌^◌, ◌<◌, ◌≤◌, ◌∷◌, ◌++◌, ◌+◌, [], ℕ, All, Bool, IsPermutation, List, length, map, MatchOption, sum_by, take, true};
-ghost use Rattle.pix_table.specs.Items.{count_of, item_of, pair_items, spread, times_of, weigh_items};
-ghost use Rattle.pix_table.specs.Places.{CannotBeCutBy, HasBestBy};
-ghost use Rattle.pix_table.specs.Seen.{AreSeen, seen_numbers};
-ghost use Rattle.pix_table.specs.SeenCut.{IsSeenCutTable, seen_mean, seen_weight};
-ghost use Rattle.pix_table.specs.SeenItems.{IsSeenItem};
-ghost use Rattle.pix_table.specs.SeenSums.{AreFew, AreSeenByValue, AreSeenSums};
-ghost use Rattle.pix_table.specs.ColorGroups.{AreSeenBoxSums};
+ghost use Rattle.pix_table.specs.quantization.Items.{count_of, item_of, pair_items, spread, times_of, weigh_items};
+ghost use Rattle.pix_table.specs.quantization.Places.{CannotBeCutBy, HasBestBy};
+ghost use Rattle.pix_table.specs.SeenPixels.{AreSeen, seen_numbers};
+ghost use Rattle.pix_table.specs.quantization.SeenCut.{IsSeenCutTable, seen_mean, seen_weight};
+ghost use Rattle.pix_table.specs.quantization.SeenItems.{IsSeenItem};
+ghost use Rattle.pix_table.specs.quantization.SeenSums.{AreFew, AreSeenByValue, AreSeenSums};
+ghost use Rattle.pix_table.specs.quantization.ColorGroups.{AreSeenBoxSums};
 
-use crate::box_sums::FEW;
-use crate::cut::cut_items;
-use crate::cutting::{Cutting, Item};
-use crate::group::{BoxSums, Group};
-use crate::items::Counted;
-use crate::joins::BOXES;
-use crate::place::Place;
-use crate::rgba::color::Seen;
-use crate::rgba::part_sums::{FEW_COLORS, FewSums, PartSums, clear};
+use crate::quantization::box_sums::FEW;
+use crate::quantization::cut::cut_items;
+use crate::quantization::cutting::{Cutting, Item};
+use crate::quantization::group::{BoxSums, Group};
+use crate::quantization::items::Counted;
+use crate::quantization::joins::BOXES;
+use crate::quantization::place::Place;
+use crate::rgba::color::SeenColor;
+use crate::rgba::part_sums::{FEW_COLORS, PartSums, PartSums32, clear};
 use crate::rgba::place::{best_in, best_seen_place};
 use crate::rgba::sums::{SeenSums, seen_channel, seen_sums_of};
 
@@ -46,20 +46,20 @@ impl BoxSums for SeenSums {
     }
 }
 
-impl Cutting for Seen {
+impl Cutting for SeenColor {
     type Sums = SeenSums;
 
     ghost middle = { seen_mean };
 
     ghost fits = { IsSeenItem };
 
-    fn mean_color(sums: SeenSums) -> Seen {
+    fn mean_color(sums: SeenSums) -> SeenColor {
         sums.mean()
     }
 }
 
 /// A color that stands once.
-impl Item<Seen> for Seen {
+impl Item<SeenColor> for SeenColor {
     ghost numbers = { λ color. seen_numbers color ++ 1 ∷ [] };
 
     #[inline(always)]
@@ -67,17 +67,17 @@ impl Item<Seen> for Seen {
         seen_channel(self, k)
     }
 
-    fn best_place(items: &[Seen]) -> Option<Place> {
+    fn best_place(items: &[SeenColor]) -> Option<Place> {
         best_seen_place(items)
     }
 
-    fn sums_of(items: &[Seen]) -> SeenSums {
+    fn sums_of(items: &[SeenColor]) -> SeenSums {
         seen_sums_of(items)
     }
 }
 
 /// A color, and one that stands for its count.
-impl Item<Seen> for [Seen; 2] {
+impl Item<SeenColor> for [SeenColor; 2] {
     ghost numbers = { λ pair. item_of (map seen_numbers pair) };
 
     #[inline(always)]
@@ -85,11 +85,11 @@ impl Item<Seen> for [Seen; 2] {
         seen_channel(self[0], k)
     }
 
-    fn best_place(items: &[[Seen; 2]]) -> Option<Place> {
+    fn best_place(items: &[[SeenColor; 2]]) -> Option<Place> {
         best_item_place(items)
     }
 
-    fn sums_of(items: &[[Seen; 2]]) -> SeenSums {
+    fn sums_of(items: &[[SeenColor; 2]]) -> SeenSums {
         item_sums_of(items)
     }
 }
@@ -100,7 +100,10 @@ impl Item<Seen> for [Seen; 2] {
 /// Condition: there is an item, and there are 1 to 256 entries.
 // Out of line, so that its stack and that of the rounds do not add up.
 #[inline(never)]
-pub(crate) fn cut_seen_table<I: Item<Seen>>(items: &mut [I], entries: &mut [Seen]) -> usize
+pub(crate) fn cut_seen_table<I: Item<SeenColor>>(
+    items: &mut [I],
+    entries: &mut [SeenColor],
+) -> usize
     requires some { 0 < length items.old }
     requires fit { All IsSeenItem (map I.numbers items.old) }
     requires few { sum_by (times_of 4) (map I.numbers items.old) < 2 ^ 64 }
@@ -125,7 +128,7 @@ pub(crate) fn cut_seen_table<I: Item<Seen>>(items: &mut [I], entries: &mut [Seen
 /// Returns the place at which a cut of a box gains most, the first of equals.
 ///
 /// It is `None` where all its colors are the same.
-fn best_item_place(items: &[[Seen; 2]]) -> Option<Place>
+fn best_item_place(items: &[[SeenColor; 2]]) -> Option<Place>
     requires fit { All IsSeenItem (pair_items seen_numbers items.now) }
     requires few { sum_by (times_of 4) (pair_items seen_numbers items.now) < 2 ^ 64 }
     ensures { MatchOption result (CannotBeCutBy 4 (pair_items seen_numbers items.now))
@@ -143,10 +146,13 @@ fn best_item_place(items: &[[Seen; 2]]) -> Option<Place>
     }
 }
 
-/// Does what [`best_item_place`] does for items of few colors, in one turn over them.
+/// Returns the place at which a cut of a box of few colors gains most, the first of equals, or
+/// `None` where all are the same. It adds their sums, of which `all` is the total, in one turn.
+///
+/// Condition: there is an item, and there are fewer than 2^24 colors.
 // Out of line, so that the two ways don't add up on the stack.
 #[inline(never)]
-fn best_of_few(items: &[[Seen; 2]], all: SeenSums) -> Option<Place>
+fn best_of_few(items: &[[SeenColor; 2]], all: SeenSums) -> Option<Place>
     requires some { 0 < length items.now }
     requires fit { All IsSeenItem (pair_items seen_numbers items.now) }
     requires few { sum_by (times_of 4) (pair_items seen_numbers items.now) < 16777216 }
@@ -156,7 +162,7 @@ fn best_of_few(items: &[[Seen; 2]], all: SeenSums) -> Option<Place>
         (λ place. HasBestBy 4 (weigh_items 4 seen_weight) (pair_items seen_numbers items.now)
         place.channel place.value place.gain) }
 {
-    let mut reds = [FewSums::no_colors(); 256];
+    let mut reds = [PartSums32::no_colors(); 256];
     let (mut greens, mut blues, mut alphas) = (reds, reds, reds);
     add_items(items, &mut reds, &mut greens, &mut blues, &mut alphas);
     let best = best_in(0, &reds, all, None);
@@ -165,9 +171,11 @@ fn best_of_few(items: &[[Seen; 2]], all: SeenSums) -> Option<Place>
     best_in(3, &alphas, all, best)
 }
 
-/// Does what [`best_item_place`] does for items of any number of colors.
+/// Returns the place at which a cut of a box of any number of colors gains most, the first of
+/// equals, or `None` where all are the same. It adds their sums, of which `all` is the total, in a
+/// turn for each channel. Condition: there is an item.
 #[inline(never)]
-fn best_of_many(items: &[[Seen; 2]], all: SeenSums) -> Option<Place>
+fn best_of_many(items: &[[SeenColor; 2]], all: SeenSums) -> Option<Place>
     requires some { 0 < length items.now }
     requires fit { All IsSeenItem (pair_items seen_numbers items.now) }
     requires few { sum_by (times_of 4) (pair_items seen_numbers items.now) < 2 ^ 64 }
@@ -187,7 +195,7 @@ fn best_of_many(items: &[[Seen; 2]], all: SeenSums) -> Option<Place>
 }
 
 /// Returns the sums of the colors of some items.
-fn item_sums_of(items: &[[Seen; 2]]) -> SeenSums
+fn item_sums_of(items: &[[SeenColor; 2]]) -> SeenSums
     requires fit { All IsSeenItem (pair_items seen_numbers items.now) }
     requires few { sum_by (times_of 4) (pair_items seen_numbers items.now) < 2 ^ 64 }
     ensures { AreSeenSums (λ color. true) (spread 4 (pair_items seen_numbers items.now)) result }
@@ -201,7 +209,7 @@ fn item_sums_of(items: &[[Seen; 2]]) -> SeenSums
 
 /// Returns the sums of the colors of an item.
 #[inline(always)]
-fn item_sums<S: PartSums>(item: [Seen; 2]) -> S
+fn item_sums<S: PartSums>(item: [SeenColor; 2]) -> S
     requires { IsSeenItem (item_of (map seen_numbers item)) }
     ensures { (p : List ℕ → Bool) → p (take 4 (item_of (map seen_numbers item))) ≡ true
         → AreSeenSums p (spread 4 (item_of (map seen_numbers item) ∷ [])) (S.whole result) }
@@ -211,7 +219,7 @@ fn item_sums<S: PartSums>(item: [Seen; 2]) -> S
 }
 
 /// Sets the sums of the colors of each value of a channel.
-fn sum_by_value<S: PartSums>(parts: &mut [S], items: &[[Seen; 2]], k: usize)
+fn sum_by_value<S: PartSums>(parts: &mut [S], items: &[[SeenColor; 2]], k: usize)
     requires channel { k < 4 }
     requires many { length parts.old ≡ 256 }
     requires fit { All IsSeenItem (pair_items seen_numbers items.now) }
@@ -228,7 +236,7 @@ fn sum_by_value<S: PartSums>(parts: &mut [S], items: &[[Seen; 2]], k: usize)
 
 /// Adds some items to the sums of no colors, in one turn.
 fn add_items<S: PartSums>(
-    items: &[[Seen; 2]],
+    items: &[[SeenColor; 2]],
     reds: &mut [S],
     greens: &mut [S],
     blues: &mut [S],
@@ -260,7 +268,7 @@ fn add_items<S: PartSums>(
 
 /// Adds an item to the sums of the colors of its value in a channel.
 #[inline(always)]
-fn add_item<S: PartSums>(parts: &mut [S], k: usize, item: [Seen; 2])
+fn add_item<S: PartSums>(parts: &mut [S], k: usize, item: [SeenColor; 2])
     requires channel { k < 4 }
     requires item { IsSeenItem (item_of (map seen_numbers item)) }
     requires sums { (box : List (List ℕ)) × All AreSeen box

@@ -1,11 +1,11 @@
 //! The nearest of colors that are seen, sixteen at a time, on lanes.
 ghost use Rattle.std.specs.Prelude.{◌≡◌, ◌<◌, ◌≤◌, length};
 
-use crate::color_block::{ColorBlock, SIZE};
-use crate::lanes::nearest_lane;
-use crate::rgba::color::Seen;
+use crate::matching::lanes::nearest_lane;
+use crate::rgba::color::SeenColor;
 use crate::rgba::near_blocks::{BlockEnds, nearest_near};
 use crate::rgba::views::{SeenBlock, both_views, views_of};
+use crate::threshold::color_block::{ColorBlock, SIZE};
 
 /// The number of blocks of sixteen entries.
 const BLOCKS: usize = 16;
@@ -28,13 +28,13 @@ pub(crate) struct SeenLanes {
 
 impl SeenLanes {
     ghost use Rattle.std.specs.Prelude.{◌≡◌, ◌<◌, ◌≤◌, ℕ, List, All, length, map};
-    ghost use Rattle.pix_table.specs.Nearest.{IsNearestBy};
-    ghost use Rattle.pix_table.specs.Seen.{AreSeen, seen_distance, seen_numbers};
-    ghost use Rattle.pix_table.specs.SeenLanes.{AreSeenLanes};
-    ghost use Rattle.pix_table.specs.NearBlocks.{AreEnds};
+    ghost use Rattle.pix_table.specs.matching.Nearest.{IsNearestBy};
+    ghost use Rattle.pix_table.specs.SeenPixels.{AreSeen, seen_distance, seen_numbers};
+    ghost use Rattle.pix_table.specs.matching.SeenLanes.{AreSeenLanes};
+    ghost use Rattle.pix_table.specs.matching.NearBlocks.{AreEnds};
 
     /// Makes a copy of some colors. The lanes behind them have the last one.
-    pub(crate) fn of(entries: &[Seen]) -> SeenLanes
+    pub(crate) fn of(entries: &[SeenColor]) -> SeenLanes
         requires some { 0 < length entries.now }
         requires few { length entries.now ≤ 256 }
         requires seen { All AreSeen (map seen_numbers entries.now) }
@@ -60,7 +60,7 @@ impl SeenLanes {
 
     /// Returns the index of the entry that is seen nearest to a color, the first of equals.
     #[inline]
-    pub(crate) fn nearest(&self, clr: Seen) -> u8
+    pub(crate) fn nearest(&self, clr: SeenColor) -> u8
         requires { AreSeen (seen_numbers clr) }
         ensures { (entries : List (List ℕ)) → AreSeenLanes entries self.now
             → IsNearestBy seen_distance entries (seen_numbers clr) result }
@@ -75,9 +75,10 @@ impl SeenLanes {
         BlockEnds::of(&self.blocks)
     }
 
-    /// Returns what [`SeenLanes::nearest`] does. Of many entries those are passed by whose blocks
-    /// are farther than the nearest entry of the block of an index.
-    pub(crate) fn nearest_from(&self, ends: &BlockEnds, clr: Seen, near: u8) -> u8
+    /// Returns the index of the entry that is seen nearest to a color, the first of equals. Of many
+    /// entries those are passed by whose blocks are farther than the nearest entry of the block of
+    /// an index.
+    pub(crate) fn nearest_from(&self, ends: &BlockEnds, clr: SeenColor, near: u8) -> u8
         requires seen { AreSeen (seen_numbers clr) }
         requires near { near < self.now.len }
         requires ends { AreEnds self.now.blocks ends.now }
@@ -93,7 +94,7 @@ impl SeenLanes {
 
     /// Returns whether the entry of an index is close to a color.
     #[inline(always)]
-    fn is_close(&self, clr: Seen, near: u8) -> bool {
+    fn is_close(&self, clr: SeenColor, near: u8) -> bool {
         let block = &self.blocks[usize::from(near) / SIZE].black;
         let i = usize::from(near) % SIZE;
         let red = u16::from(block.red[i].abs_diff(clr.red));
@@ -102,10 +103,10 @@ impl SeenLanes {
         red + green + blue < CLOSE
     }
 
-    /// Returns what [`SeenLanes::nearest`] does. Blocks are passed by where the entry of an index
-    /// is close to the color, since few are near then.
+    /// Returns the index of the entry that is seen nearest to a color, the first of equals. Blocks
+    /// are passed by where the entry of an index is close to the color, since few are near then.
     #[inline(always)]
-    pub(crate) fn nearest_if_close(&self, ends: &BlockEnds, clr: Seen, near: u8) -> u8
+    pub(crate) fn nearest_if_close(&self, ends: &BlockEnds, clr: SeenColor, near: u8) -> u8
         requires seen { AreSeen (seen_numbers clr) }
         requires near { near < self.now.len }
         requires ends { AreEnds self.now.blocks ends.now }

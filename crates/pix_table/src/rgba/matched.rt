@@ -1,29 +1,29 @@
 //! The entries that are seen nearest to pixels.
 ghost use Rattle.std.specs.Prelude.{◌≡◌, ◌<◌, ◌≤◌, ℕ, All, List, length, map, take};
-ghost use Rattle.pix_table.specs.Nearest.{IsNearestBy};
-ghost use Rattle.pix_table.specs.Seen.{AreSeen, AreSeenMatched, seen, seen_distance, seen_numbers};
-ghost use Rattle.pix_table.specs.NearBlocks.{AreEnds};
-ghost use Rattle.pix_table.specs.SeenLanes.{AreSeenLanes};
-ghost use Rattle.pix_table.specs.SeenMatches.{AreMatchedPixels};
-ghost use Rattle.pix_table.specs.SeenGroups.{seen_key_numbers};
-ghost use Rattle.pix_table.specs.SeenTables.{four_of};
+ghost use Rattle.pix_table.specs.matching.Nearest.{IsNearestBy};
+ghost use Rattle.pix_table.specs.SeenPixels.{AreSeen, AreSeenMatched, seen, seen_distance, seen_numbers};
+ghost use Rattle.pix_table.specs.matching.NearBlocks.{AreEnds};
+ghost use Rattle.pix_table.specs.matching.SeenLanes.{AreSeenLanes};
+ghost use Rattle.pix_table.specs.matching.SeenMatches.{AreMatchedPixels};
+ghost use Rattle.pix_table.specs.quantization.SeenGroups.{seen_key_numbers};
+ghost use Rattle.pix_table.specs.quantization.SeenTables.{four_of};
 
-use crate::chosen::ENTRIES;
 use crate::color::TablePixel;
-use crate::items::place_of;
-use crate::rgba::color::{RgbaColor, Seen, seen_of};
+use crate::matching::candidates::ENTRIES;
+use crate::quantization::items::place_of;
+use crate::rgba::color::{RgbaColor, SeenColor, seen_of};
 use crate::rgba::lanes::SeenLanes;
 use crate::rgba::near_blocks::BlockEnds;
 
 /// Returns how the entries of a table are seen, followed by others.
-pub(crate) fn seen_entries<E: TablePixel>(entries: &[E]) -> [Seen; ENTRIES]
+pub(crate) fn seen_entries<E: TablePixel>(entries: &[E]) -> [SeenColor; ENTRIES]
     requires { length entries.now ≤ 256 }
     ensures long { length result ≡ 256 }
     ensures numbers { map seen_numbers (take (length entries.now) result)
         ≡ map seen (map E.values entries.now) }
     ensures seen { All AreSeen (map seen_numbers (take (length entries.now) result)) }
 {
-    let mut colors = [Seen::default(); ENTRIES];
+    let mut colors = [SeenColor::default(); ENTRIES];
     for i in 0..entries.len() {
         colors[i] = seen_of(entries[i]);
     }

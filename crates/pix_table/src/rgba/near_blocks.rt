@@ -1,25 +1,27 @@
 //! Blocks of entries that are seen, of which those are skipped that are too far.
 ghost use Rattle.std.specs.Prelude.{◌≡◌, ◌+◌, ◌-◌, ◌*◌, ◌<◌, ◌≤◌, ℕ, length, min, slice_index};
 ghost use Rattle.std.specs.Int.{bit_at};
-ghost use Rattle.pix_table.specs.BlockGaps.{gap};
-ghost use Rattle.pix_table.specs.Lanes.{IsLaneKey, IsNearestLane, key_of};
-ghost use Rattle.pix_table.specs.NearBlocks.{AreColorEnds, AreEnds, bound_of, far_lane};
+ghost use Rattle.pix_table.specs.matching.BlockGaps.{gap};
+ghost use Rattle.pix_table.specs.matching.Lanes.{IsLaneKey, IsNearestLane, key_of};
+ghost use Rattle.pix_table.specs.matching.NearBlocks.{AreColorEnds, AreEnds, bound_of, far_lane};
 
 use crate::color::Color;
-use crate::color_block::{ColorBlock, SIZE};
-use crate::lanes::{least_key, sums};
+use crate::matching::lanes::{least_key, sums};
 use crate::rgba::views::{SeenBlock, Views};
+use crate::threshold::color_block::{ColorBlock, SIZE};
 use std::simd::prelude::*;
 
 /// The minimum and the maximum of the numbers of each of sixteen blocks.
 #[derive(Clone, Copy)]
 pub(crate) struct BlockEnds {
+    /// The minimum of each block.
     pub(crate) least: SeenBlock,
+    /// The maximum of each block.
     pub(crate) greatest: SeenBlock,
 }
 
 impl BlockEnds {
-    /// Returns those of sixteen blocks.
+    /// Returns the minimum and the maximum of the numbers of each of sixteen blocks.
     pub(crate) fn of(blocks: &[SeenBlock]) -> BlockEnds
         requires { length blocks.now ≡ 16 }
         ensures { AreEnds blocks.now result }
@@ -160,9 +162,8 @@ fn least_of_bits(blocks: &[SeenBlock], bits: u64, sought: Views, first: u32) -> 
     key
 }
 
-/// Returns the lane of the color that is seen nearest to another one, the first of equals, as
-/// [`nearest_lane`](crate::lanes::nearest_lane) does. Blocks are skipped that are farther than the
-/// nearest color of the block of some lane.
+/// Returns the lane of the color that is seen nearest to another one, the first of equals. Blocks
+/// are skipped that are farther than the nearest color of the block of some lane.
 pub(crate) fn nearest_near(blocks: &[SeenBlock], ends: &BlockEnds, sought: Views, near: u8) -> u8
     requires few { length blocks.now ≤ 16 }
     requires near { near < 16 * length blocks.now }

@@ -1,15 +1,15 @@
 //! Entries that become opaque, since most of their colors are.
 ghost use Rattle.std.specs.Prelude.{◌≡◌, ◌<◌, ◌≤◌, ◌+◌, ◌*◌, ◌^◌, ℕ, All, List, false, length, map};
-ghost use Rattle.pix_table.specs.Items.{AreItemsOf, item_sum};
-ghost use Rattle.pix_table.specs.Refine.{IsRoundBy};
-ghost use Rattle.pix_table.specs.Seen.{AreSeen, seen_distance, seen_numbers};
-ghost use Rattle.pix_table.specs.SeenGroups.{AreSeenGrouped};
-ghost use Rattle.pix_table.specs.SeenShares.{AreShares, opacity};
-ghost use Rattle.pix_table.specs.SeenTables.{opaque_settled};
+ghost use Rattle.pix_table.specs.quantization.Items.{AreItemsOf, item_sum};
+ghost use Rattle.pix_table.specs.quantization.Refine.{IsRoundBy};
+ghost use Rattle.pix_table.specs.SeenPixels.{AreSeen, seen_distance, seen_numbers};
+ghost use Rattle.pix_table.specs.quantization.SeenGroups.{AreSeenGrouped};
+ghost use Rattle.pix_table.specs.quantization.SeenShares.{AreShares, opacity};
+ghost use Rattle.pix_table.specs.quantization.SeenTables.{opaque_settled};
 
-use crate::chosen::ENTRIES;
-use crate::items::{Counted, Items};
-use crate::rgba::color::{Seen, over_alpha};
+use crate::matching::candidates::ENTRIES;
+use crate::quantization::items::{Counted, Items};
+use crate::rgba::color::{SeenColor, over_alpha};
 use crate::rgba::lanes::SeenLanes;
 
 /// The least alpha of an entry that may become opaque. The eye can't tell it from an opaque one.
@@ -29,7 +29,7 @@ pub(crate) struct Share {
 /// Condition: there are 1 to 256 entries.
 // Out of line, so that its stack and that of the rounds do not add up.
 #[inline(never)]
-pub(crate) fn make_opaque(colors: &[Seen], items: Items, entries: &mut [Seen])
+pub(crate) fn make_opaque(colors: &[SeenColor], items: Items, entries: &mut [SeenColor])
     requires some { 0 < length entries.old }
     requires few { length entries.old ≤ 256 }
     requires room { 2 * items.pairs + items.singles ≤ length colors.now }
@@ -54,7 +54,7 @@ pub(crate) fn make_opaque(colors: &[Seen], items: Items, entries: &mut [Seen])
 
 /// Makes entries opaque by the counts of their colors. Each entry has a place in `shares`, which
 /// may hold anything before.
-fn opaque_round(colors: &[Seen], items: Items, shares: &mut [Share], entries: &mut [Seen])
+fn opaque_round(colors: &[SeenColor], items: Items, shares: &mut [Share], entries: &mut [SeenColor])
     requires some { 0 < length entries.old }
     requires few { length entries.old ≤ 256 }
     requires many { length shares.old ≡ length entries.old }
@@ -79,7 +79,7 @@ fn opaque_round(colors: &[Seen], items: Items, shares: &mut [Share], entries: &m
 
 /// Returns whether there is an entry that may become opaque and isn't. Where there is none, no
 /// entry changes, whatever its colors are.
-pub(crate) fn has_nearly_opaque(entries: &[Seen]) -> bool
+pub(crate) fn has_nearly_opaque(entries: &[SeenColor]) -> bool
     requires { All AreSeen (map seen_numbers entries.now) }
     ensures { result ≡ false → (group : List (List ℕ))
         → All (λ entry. opaque_settled entry group ≡ entry) (map seen_numbers entries.now) }
@@ -93,7 +93,7 @@ pub(crate) fn has_nearly_opaque(entries: &[Seen]) -> bool
 }
 
 /// Returns whether an entry may become opaque and isn't.
-fn is_nearly_opaque(entry: Seen) -> bool
+fn is_nearly_opaque(entry: SeenColor) -> bool
     requires { AreSeen (seen_numbers entry) }
     ensures { result ≡ false → (group : List (List ℕ))
         → opaque_settled (seen_numbers entry) group ≡ seen_numbers entry }
@@ -104,7 +104,7 @@ fn is_nearly_opaque(entry: Seen) -> bool
 /// Counts the colors of each entry.
 // Out of line, so that the stack holds the lanes only while they are searched.
 #[inline(never)]
-fn count_shares(colors: &[Seen], items: Items, entries: &[Seen], shares: &mut [Share])
+fn count_shares(colors: &[SeenColor], items: Items, entries: &[SeenColor], shares: &mut [Share])
     requires some { 0 < length entries.now }
     requires few { length entries.now ≤ 256 }
     requires many { length shares.old ≡ length entries.now }
@@ -135,7 +135,7 @@ fn count_shares(colors: &[Seen], items: Items, entries: &[Seen], shares: &mut [S
 
 impl Share {
     /// Returns the counts with a color that stands so often.
-    fn with(self, clr: Seen, count: u16) -> Share
+    fn with(self, clr: SeenColor, count: u16) -> Share
         requires all { self.all + count < 2 ^ 64 }
         requires opaque { self.opaque ≤ self.all }
         ensures all { result.all ≡ self.all + count }
@@ -150,7 +150,7 @@ impl Share {
 }
 
 /// Returns what an entry becomes by the counts of its colors.
-fn opaque_settled(share: Share, entry: Seen) -> Seen
+fn opaque_settled(share: Share, entry: SeenColor) -> SeenColor
     requires { AreSeen (seen_numbers entry) }
     ensures settled { (group : List (List ℕ)) → AreShares group share
         → seen_numbers result ≡ opaque_settled (seen_numbers entry) group }
@@ -159,7 +159,7 @@ fn opaque_settled(share: Share, entry: Seen) -> Seen
     if entry.alpha < NEARLY || share.opaque <= share.all / 2 {
         return entry;
     }
-    Seen {
+    SeenColor {
         red: over_alpha(entry.red, entry.alpha),
         green: over_alpha(entry.green, entry.alpha),
         blue: over_alpha(entry.blue, entry.alpha),

@@ -1,10 +1,10 @@
 //! The sums of the seen colors of a part of a box, in words as wide as they need.
 ghost use Rattle.std.specs.Prelude.{◌≡◌, ℕ, ◌+◌, ◌*◌, ◌<◌, All, length};
-ghost use Rattle.pix_table.specs.SeenSums.{AreFew};
-ghost use Rattle.pix_table.specs.PartSums.{AreNone, few_sums};
+ghost use Rattle.pix_table.specs.quantization.SeenSums.{AreFew};
+ghost use Rattle.pix_table.specs.quantization.PartSums.{AreNone, few_sums};
 ghost use Rattle.pix_table.specs.declared.rgba.sums.SeenSums.{SeenSums};
 
-use crate::rgba::color::Seen;
+use crate::rgba::color::SeenColor;
 use crate::rgba::sums::SeenSums;
 
 /// A type of sums of fewer colors than its limit.
@@ -20,7 +20,7 @@ pub(crate) trait PartSums: Copy {
         ensures { AreNone (whole result) };
 
     /// Returns the sums of a color that stands so often.
-    fn of_color(clr: Seen, times: u16) -> Self
+    fn of_color(clr: SeenColor, times: u16) -> Self
         ensures count { (whole result).count ≡ times }
         ensures red { (whole result).red ≡ times * clr.red }
         ensures green { (whole result).green ≡ times * clr.green }
@@ -53,7 +53,7 @@ impl PartSums for SeenSums {
     }
 
     #[inline(always)]
-    fn of_color(clr: Seen, times: u16) -> SeenSums {
+    fn of_color(clr: SeenColor, times: u16) -> SeenSums {
         SeenSums::of_times(clr, times)
     }
 
@@ -83,7 +83,7 @@ pub(crate) const FEW_COLORS: usize = 1 << 24;
 
 /// The sums of few colors.
 #[derive(Clone, Copy)]
-pub(crate) struct FewSums {
+pub(crate) struct PartSums32 {
     count: u32,
     red: u32,
     green: u32,
@@ -91,13 +91,13 @@ pub(crate) struct FewSums {
     alpha: u32,
 }
 
-impl PartSums for FewSums {
+impl PartSums for PartSums32 {
     ghost whole = { few_sums };
 
     ghost limit = { 16777216 };
 
-    fn no_colors() -> FewSums {
-        FewSums {
+    fn no_colors() -> PartSums32 {
+        PartSums32 {
             count: 0,
             red: 0,
             green: 0,
@@ -107,9 +107,9 @@ impl PartSums for FewSums {
     }
 
     #[inline(always)]
-    fn of_color(clr: Seen, times: u16) -> FewSums {
+    fn of_color(clr: SeenColor, times: u16) -> PartSums32 {
         let count = u32::from(times);
-        FewSums {
+        PartSums32 {
             count,
             red: count * u32::from(clr.red),
             green: count * u32::from(clr.green),
@@ -119,8 +119,8 @@ impl PartSums for FewSums {
     }
 
     #[inline(always)]
-    fn joined(self, more: FewSums) -> FewSums {
-        FewSums {
+    fn joined(self, more: PartSums32) -> PartSums32 {
+        PartSums32 {
             count: self.count + more.count,
             red: self.red + more.red,
             green: self.green + more.green,

@@ -1,20 +1,20 @@
 //! The place at which a cut of a box of seen colors lowers the squared error most.
 ghost use Rattle.std.specs.Prelude.{◌≡◌, ◌+◌, ◌-◌, ◌<◌, ℕ, All, List, length, map, MatchOption};
-ghost use Rattle.pix_table.specs.Places.{CannotBeCutBy, HasBestBy};
-ghost use Rattle.pix_table.specs.BestPlaces.{CanCutBy, IsBestUpToBy};
-ghost use Rattle.pix_table.specs.Seen.{AreSeen, seen_numbers};
-ghost use Rattle.pix_table.specs.SeenCut.{seen_weight};
-ghost use Rattle.pix_table.specs.SeenSums.{AreSeenPart, IsSummed, seen_gain_at, seen_weight_by};
+ghost use Rattle.pix_table.specs.quantization.Places.{CannotBeCutBy, HasBestBy};
+ghost use Rattle.pix_table.specs.quantization.BestPlaces.{CanCutBy, IsBestUpToBy};
+ghost use Rattle.pix_table.specs.SeenPixels.{AreSeen, seen_numbers};
+ghost use Rattle.pix_table.specs.quantization.SeenCut.{seen_weight};
+ghost use Rattle.pix_table.specs.quantization.SeenSums.{AreSeenPart, IsSummed, seen_gain_at, seen_weight_by};
 
-use crate::place::{Place, better};
-use crate::rgba::color::Seen;
+use crate::quantization::place::{Place, better};
+use crate::rgba::color::SeenColor;
 use crate::rgba::part_sums::PartSums;
 use crate::rgba::sums::{SeenSums, seen_sums_of, sum_values};
 
 /// Returns the place at which a cut of a box gains most, the first of equals.
 ///
 /// It is `None` where all its colors are the same.
-pub(crate) fn best_seen_place(colors: &[Seen]) -> Option<Place>
+pub(crate) fn best_seen_place(colors: &[SeenColor]) -> Option<Place>
     requires { All AreSeen (map seen_numbers colors.now) }
     ensures { MatchOption result (CannotBeCutBy 4 (map seen_numbers colors.now))
         (λ place. HasBestBy 4 seen_weight (map seen_numbers colors.now) place.channel place.value

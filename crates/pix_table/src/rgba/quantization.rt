@@ -3,16 +3,16 @@ ghost use Rattle.std.specs.Prelude.{◌≡◌, ◌⊎◌, ◌<◌, ◌≤◌, �
 ghost use Rattle.std.specs.Prelude.{MatchOption, IfNone, IsPermutation, [], false, slice_index_or, true};
 ghost use Rattle.std.specs.List.{list_any};
 ghost use Rattle.std.specs.Simd.{first_chunks};
-ghost use Rattle.pix_table.specs.Items.{IsItem, pair_items, spread, times_of};
-ghost use Rattle.pix_table.specs.Seen.{AreSeen, rgba_numbers, seen, seen_numbers, straight};
-ghost use Rattle.pix_table.specs.SeenTables.{IsQuantizedRgba, IsSeenTable, distinct_pixels};
-ghost use Rattle.pix_table.specs.SeenTables.{four_of, same_seen};
+ghost use Rattle.pix_table.specs.quantization.Items.{IsItem, pair_items, spread, times_of};
+ghost use Rattle.pix_table.specs.SeenPixels.{AreSeen, rgba_numbers, seen, seen_numbers, straight};
+ghost use Rattle.pix_table.specs.quantization.SeenTables.{IsQuantizedRgba, IsSeenTable, distinct_pixels};
+ghost use Rattle.pix_table.specs.quantization.SeenTables.{four_of, same_seen};
 
-use crate::chosen::ENTRIES;
 use crate::color::TablePixel;
-use crate::hints::Hints;
-use crate::items::{Counted, count_pairs};
-use crate::rgba::color::{RgbaColor, Seen, same, seen_of, straight};
+use crate::matching::candidates::ENTRIES;
+use crate::quantization::hints::Hints;
+use crate::quantization::items::{Counted, count_pairs};
+use crate::rgba::color::{RgbaColor, SeenColor, same, seen_of, straight};
 use crate::rgba::items::cut_seen_table;
 use crate::rgba::refine::{refine_seen, refine_seen_items};
 
@@ -35,7 +35,7 @@ use crate::rgba::refine::{refine_seen, refine_seen_items};
 pub fn quantize_rgba<P: TablePixel>(
     pixels: &[P],
     rounds: u8,
-    work: &mut [Seen],
+    work: &mut [SeenColor],
     entries: &mut [RgbaColor],
 ) -> Option<usize>
     ensures table { MatchOption result
@@ -57,7 +57,7 @@ pub fn quantize_rgba<P: TablePixel>(
 fn quantize_seen<P: TablePixel>(
     pixels: &[P],
     rounds: u8,
-    work: &mut [Seen],
+    work: &mut [SeenColor],
     entries: &mut [RgbaColor],
 ) -> usize
     requires room { 0 < length entries.old }
@@ -85,7 +85,7 @@ fn distinct<P: TablePixel>(pixels: &[P], entries: &mut [RgbaColor]) -> Option<us
         × (map rgba_numbers (take count entries.new)
         ≡ distinct_pixels (map P.values pixels.now))) }
 {
-    let mut table = [Seen::default(); ENTRIES];
+    let mut table = [SeenColor::default(); ENTRIES];
     let mut hints = Hints::new();
     let mut count = 0;
     for i in 0..pixels.len() {
@@ -123,7 +123,7 @@ fn rgba_of<P: TablePixel>(pixel: P) -> RgbaColor
 
 /// Returns the place of a color among the entries. It looks at two places first.
 #[inline(always)]
-fn entry_of(entries: &[Seen], clr: Seen, hints: (usize, usize)) -> Option<usize>
+fn entry_of(entries: &[SeenColor], clr: SeenColor, hints: (usize, usize)) -> Option<usize>
     ensures { MatchOption result
         (list_any (λ c. same_seen c (seen_numbers clr)) (map seen_numbers entries.now) ≡ false)
         (λ at. (at < length entries.now) × (same_seen
@@ -145,7 +145,7 @@ fn entry_of(entries: &[Seen], clr: Seen, hints: (usize, usize)) -> Option<usize>
 }
 
 /// Writes what each pixel is seen as.
-fn gather<P: TablePixel>(pixels: &[P], colors: &mut [Seen])
+fn gather<P: TablePixel>(pixels: &[P], colors: &mut [SeenColor])
     requires { length colors.old ≡ length pixels.now }
     ensures gathered { map seen_numbers colors.new ≡ map seen (map P.values pixels.now) }
     ensures seen { All AreSeen (map seen_numbers colors.new) }
@@ -162,7 +162,7 @@ fn gather<P: TablePixel>(pixels: &[P], colors: &mut [Seen])
 fn made_table<P: TablePixel>(
     pixels: &[P],
     rounds: u8,
-    work: &mut [Seen],
+    work: &mut [SeenColor],
     entries: &mut [RgbaColor],
 ) -> usize
     requires some { 0 < length pixels.now }
@@ -175,7 +175,7 @@ fn made_table<P: TablePixel>(
     ensures straight { map rgba_numbers (take result entries.new)
         ≡ map straight (map seen (map rgba_numbers (take result entries.new))) }
 {
-    let mut table = [Seen::default(); ENTRIES];
+    let mut table = [SeenColor::default(); ENTRIES];
     let count = cut_and_refine(pixels, rounds, work, &mut table[..entries.len()]);
     write_straight(&table[..count], entries);
     count
@@ -189,8 +189,8 @@ fn made_table<P: TablePixel>(
 fn cut_and_refine<P: TablePixel>(
     pixels: &[P],
     rounds: u8,
-    work: &mut [Seen],
-    entries: &mut [Seen],
+    work: &mut [SeenColor],
+    entries: &mut [SeenColor],
 ) -> usize
     requires some { 0 < length pixels.now }
     requires work { length work.old ≡ length pixels.now }
@@ -212,7 +212,12 @@ fn cut_and_refine<P: TablePixel>(
 }
 
 /// Makes the table by pairs of a color and its count, which are the first of the colors.
-fn refined_of_pairs(colors: &mut [Seen], pairs: usize, rounds: u8, entries: &mut [Seen]) -> usize
+fn refined_of_pairs(
+    colors: &mut [SeenColor],
+    pairs: usize,
+    rounds: u8,
+    entries: &mut [SeenColor],
+) -> usize
     requires inside { 2 * pairs ≤ length colors.old }
     requires some { 0 < pairs }
     requires items { All (IsItem 4) (pair_items seen_numbers (first_chunks 2 pairs colors.old)) }
@@ -237,7 +242,7 @@ fn refined_of_pairs(colors: &mut [Seen], pairs: usize, rounds: u8, entries: &mut
 }
 
 /// Makes the table by colors, each of which counts one. Their order changes.
-fn refined_of_colors(colors: &mut [Seen], rounds: u8, entries: &mut [Seen]) -> usize
+fn refined_of_colors(colors: &mut [SeenColor], rounds: u8, entries: &mut [SeenColor]) -> usize
     requires some { 0 < length colors.old }
     requires room { 0 < length entries.old }
     requires few { length entries.old ≤ 256 }
@@ -253,7 +258,7 @@ fn refined_of_colors(colors: &mut [Seen], rounds: u8, entries: &mut [Seen]) -> u
 }
 
 /// Writes the pixels that are seen as the colors of a table into the first of the entries.
-fn write_straight(table: &[Seen], entries: &mut [RgbaColor])
+fn write_straight(table: &[SeenColor], entries: &mut [RgbaColor])
     requires room { length table.now ≤ length entries.old }
     requires seen { All AreSeen (map seen_numbers table.now) }
     ensures many { length entries.new ≡ length entries.old }

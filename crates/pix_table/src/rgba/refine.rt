@@ -1,20 +1,20 @@
 //! Rounds by which a table of seen colors fits a list of them better.
 ghost use Rattle.std.specs.Prelude.{◌≡◌, ◌<◌, ◌≤◌, ◌+◌, ◌*◌, ◌/◌, ◌%◌, ◌^◌, [], ◌∷◌, ℕ, All, IsPermutation, List, false, length, map, sum_by};
-ghost use Rattle.pix_table.specs.Items.{AreItemsOf, IsItem, item_sum, pair_items, spread, times_of};
-ghost use Rattle.pix_table.specs.Refine.{AreRoundsBy, IsRoundBy};
-ghost use Rattle.pix_table.specs.Seen.{AreSeen, seen_distance, seen_numbers};
-ghost use Rattle.pix_table.specs.SeenGroups.{AreGroupSums, AreSeenGrouped, seen_key_numbers};
-ghost use Rattle.pix_table.specs.SeenTables.{IsSeenRefined, seen_settled};
+ghost use Rattle.pix_table.specs.quantization.Items.{AreItemsOf, IsItem, item_sum, pair_items, spread, times_of};
+ghost use Rattle.pix_table.specs.quantization.Refine.{AreRoundsBy, IsRoundBy};
+ghost use Rattle.pix_table.specs.SeenPixels.{AreSeen, seen_distance, seen_numbers};
+ghost use Rattle.pix_table.specs.quantization.SeenGroups.{AreGroupSums, AreSeenGrouped, seen_key_numbers};
+ghost use Rattle.pix_table.specs.quantization.SeenTables.{IsSeenRefined, seen_settled};
 
-use crate::chosen::ENTRIES;
-use crate::items::{Counted, Items, count_colors};
-use crate::rgba::color::{Seen, same};
+use crate::matching::candidates::ENTRIES;
+use crate::quantization::items::{Counted, Items, count_colors};
+use crate::rgba::color::{SeenColor, same};
 use crate::rgba::groups::settled;
 use crate::rgba::lanes::SeenLanes;
 use crate::rgba::opaque::{has_nearly_opaque, make_opaque};
 use crate::rgba::sums::SeenSums;
 
-impl Counted for Seen {
+impl Counted for SeenColor {
     ghost parts = { seen_numbers };
 
     ghost channels = { 4 };
@@ -30,8 +30,8 @@ impl Counted for Seen {
     }
 
     #[inline(always)]
-    fn of_key(key: u32) -> Seen {
-        Seen {
+    fn of_key(key: u32) -> SeenColor {
+        SeenColor {
             red: (key / 16777216) as u8,
             green: (key / 65536 % 256) as u8,
             blue: (key / 256 % 256) as u8,
@@ -40,8 +40,8 @@ impl Counted for Seen {
     }
 
     #[inline(always)]
-    fn of_count(count: u16) -> Seen {
-        Seen {
+    fn of_count(count: u16) -> SeenColor {
+        SeenColor {
             red: (count % 256) as u8,
             green: (count / 256) as u8,
             blue: 0,
@@ -64,7 +64,7 @@ impl Counted for Seen {
 /// Condition: there are 1 to 256 entries.
 // Out of line, so that the cut before it does not have its sums on the stack.
 #[inline(never)]
-pub(crate) fn refine_seen(colors: &mut [Seen], rounds: u8, entries: &mut [Seen])
+pub(crate) fn refine_seen(colors: &mut [SeenColor], rounds: u8, entries: &mut [SeenColor])
     requires some { 0 < length entries.old }
     requires few { length entries.old ≤ 256 }
     requires colors { All AreSeen (map seen_numbers colors.old) }
@@ -80,10 +80,16 @@ pub(crate) fn refine_seen(colors: &mut [Seen], rounds: u8, entries: &mut [Seen])
     refine_to_opaque(colors, items, rounds, entries);
 }
 
-/// Does the same by pairs, each of a color and its count.
-// Out of line, as above.
+/// Moves the entries by `rounds` rounds, given pairs of a color and its count. In each round every
+/// color goes to its nearest entry, the first of equals. Then every entry goes to the mean of its
+/// colors, where that makes their squared error no greater. An entry without colors stays. After
+/// all rounds each entry becomes opaque whose alpha is at least 250 and more than half of whose
+/// colors are opaque.
+///
+/// Condition: there are 1 to 256 entries.
+// Out of line, so that the cut before it does not have its sums on the stack.
 #[inline(never)]
-pub(crate) fn refine_seen_items(items: &[[Seen; 2]], rounds: u8, entries: &mut [Seen])
+pub(crate) fn refine_seen_items(items: &[[SeenColor; 2]], rounds: u8, entries: &mut [SeenColor])
     requires some { 0 < length entries.old }
     requires few { length entries.old ≤ 256 }
     requires items { All (IsItem 4) (pair_items seen_numbers items.now) }
@@ -103,8 +109,11 @@ pub(crate) fn refine_seen_items(items: &[[Seen; 2]], rounds: u8, entries: &mut [
     refine_to_opaque(items.as_flattened(), counted, rounds, entries);
 }
 
-/// Does the same by the items of the colors.
-fn refine_to_opaque(colors: &[Seen], items: Items, rounds: u8, entries: &mut [Seen])
+/// Moves the entries by `rounds` rounds of the items of the colors. Then makes each entry opaque
+/// whose alpha is at least 250 and more than half of whose colors are opaque.
+///
+/// Condition: there are 1 to 256 entries.
+fn refine_to_opaque(colors: &[SeenColor], items: Items, rounds: u8, entries: &mut [SeenColor])
     requires some { 0 < length entries.old }
     requires few { length entries.old ≤ 256 }
     requires room { 2 * items.pairs + items.singles ≤ length colors.now }
@@ -126,7 +135,7 @@ fn refine_to_opaque(colors: &[Seen], items: Items, rounds: u8, entries: &mut [Se
 }
 
 /// Moves the entries by `rounds` rounds of the items of the colors.
-fn refine_seen_by(colors: &[Seen], items: Items, rounds: u8, entries: &mut [Seen])
+fn refine_seen_by(colors: &[SeenColor], items: Items, rounds: u8, entries: &mut [SeenColor])
     requires some { 0 < length entries.old }
     requires few { length entries.old ≤ 256 }
     requires room { 2 * items.pairs + items.singles ≤ length colors.now }
@@ -155,7 +164,12 @@ fn refine_seen_by(colors: &[Seen], items: Items, rounds: u8, entries: &mut [Seen
 
 /// Moves the entries by one round, and returns whether one has moved. Where none has, none moves in
 /// the next round. Each entry has sums, in which anything may stand.
-fn seen_round(colors: &[Seen], items: Items, sums: &mut [SeenSums], entries: &mut [Seen]) -> bool
+fn seen_round(
+    colors: &[SeenColor],
+    items: Items,
+    sums: &mut [SeenSums],
+    entries: &mut [SeenColor],
+) -> bool
     requires some { 0 < length entries.old }
     requires few { length entries.old ≤ 256 }
     requires many { length sums.old ≡ length entries.old }
@@ -188,7 +202,7 @@ fn seen_round(colors: &[Seen], items: Items, sums: &mut [SeenSums], entries: &mu
 /// Sets the sums of each entry to those of its colors.
 // Out of line, so that the stack holds the lanes only while they are searched.
 #[inline(never)]
-fn sum_groups(colors: &[Seen], items: Items, entries: &[Seen], sums: &mut [SeenSums])
+fn sum_groups(colors: &[SeenColor], items: Items, entries: &[SeenColor], sums: &mut [SeenSums])
     requires some { 0 < length entries.now }
     requires few { length entries.now ≤ 256 }
     requires many { length sums.old ≡ length entries.now }

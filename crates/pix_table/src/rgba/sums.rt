@@ -1,20 +1,25 @@
 //! Sums of colors that are seen.
 ghost use Rattle.std.specs.Prelude.{◌≡◌, ℕ, ◌+◌, ◌-◌, ◌*◌, ◌/◌, ◌<◌, ◌≤◌, All, List, length, map, slice_index, true};
-ghost use Rattle.pix_table.specs.Seen.{AreSeen, seen_numbers};
-ghost use Rattle.pix_table.specs.SeenSums.{AreFew, AreSeenByValue, AreSeenPart, AreSeenSums};
-ghost use Rattle.pix_table.specs.SeenSums.{seen_squares, seen_weight_by};
+ghost use Rattle.pix_table.specs.SeenPixels.{AreSeen, seen_numbers};
+ghost use Rattle.pix_table.specs.quantization.SeenSums.{AreFew, AreSeenByValue, AreSeenPart, AreSeenSums};
+ghost use Rattle.pix_table.specs.quantization.SeenSums.{seen_squares, seen_weight_by};
 
-use crate::box_sums::{FEW, LITTLE, quotient};
-use crate::rgba::color::Seen;
-use crate::weight::{square, weight};
+use crate::quantization::box_sums::{FEW, LITTLE, quotient};
+use crate::quantization::weight::{square, weight};
+use crate::rgba::color::SeenColor;
 
 /// How many seen colors there are, and the sums of their numbers.
 #[derive(Clone, Copy)]
 pub(crate) struct SeenSums {
+    /// How many colors there are.
     pub(crate) count: usize,
+    /// The sum of their reds over black.
     pub(crate) red: u128,
+    /// The sum of their greens over black.
     pub(crate) green: u128,
+    /// The sum of their blues over black.
     pub(crate) blue: u128,
+    /// The sum of their alphas.
     pub(crate) alpha: u128,
 }
 
@@ -38,7 +43,7 @@ impl SeenSums {
 
     /// Returns the sums with a color more.
     #[inline(always)]
-    pub(crate) fn with(self, clr: Seen) -> SeenSums
+    pub(crate) fn with(self, clr: SeenColor) -> SeenSums
         requires count { self.count < 18446744073709551615 }
         requires few { AreFew self }
         ensures count { result.count ≡ self.count + 1 }
@@ -58,7 +63,7 @@ impl SeenSums {
 
     /// Returns the sums of a color that stands so often.
     #[inline(always)]
-    pub(crate) fn of_times(clr: Seen, times: u16) -> SeenSums
+    pub(crate) fn of_times(clr: SeenColor, times: u16) -> SeenSums
         ensures count { result.count ≡ times }
         ensures red { result.red ≡ times * clr.red }
         ensures green { result.green ≡ times * clr.green }
@@ -178,7 +183,7 @@ impl SeenSums {
     /// Returns the mean of the colors, to the nearest whole number in each channel, ties up.
     ///
     /// Condition: there is a color.
-    pub(crate) fn mean(self) -> Seen
+    pub(crate) fn mean(self) -> SeenColor
         requires some { 0 < self.count }
         requires few { AreFew self }
         ensures red { result.red ≡ (2 * self.red + self.count) / (2 * self.count) }
@@ -187,7 +192,7 @@ impl SeenSums {
         ensures alpha { result.alpha ≡ (2 * self.alpha + self.count) / (2 * self.count) }
     {
         let count = self.count as u128;
-        Seen {
+        SeenColor {
             red: quotient(2 * self.red + count, 2 * count),
             green: quotient(2 * self.green + count, 2 * count),
             blue: quotient(2 * self.blue + count, 2 * count),
@@ -198,7 +203,7 @@ impl SeenSums {
 
 /// Returns the number of a channel: 0 is red, 1 green, 2 blue, 3 the alpha.
 #[inline(always)]
-pub(crate) fn seen_channel(clr: Seen, channel: usize) -> u8
+pub(crate) fn seen_channel(clr: SeenColor, channel: usize) -> u8
     ensures { result ≡ slice_index (seen_numbers clr) channel }
 {
     match channel {
@@ -211,7 +216,7 @@ pub(crate) fn seen_channel(clr: Seen, channel: usize) -> u8
 }
 
 /// Returns the sums of some colors.
-pub(crate) fn seen_sums_of(colors: &[Seen]) -> SeenSums
+pub(crate) fn seen_sums_of(colors: &[SeenColor]) -> SeenSums
     requires { All AreSeen (map seen_numbers colors.now) }
     ensures { AreSeenSums (λ color. true) (map seen_numbers colors.now) result }
 {
@@ -223,7 +228,7 @@ pub(crate) fn seen_sums_of(colors: &[Seen]) -> SeenSums
 }
 
 /// Sets the sums of the colors of each value of a channel. Each channel has a loop of its own.
-pub(crate) fn sum_values(parts: &mut [SeenSums; 256], colors: &[Seen], k: usize)
+pub(crate) fn sum_values(parts: &mut [SeenSums; 256], colors: &[SeenColor], k: usize)
     requires { All AreSeen (map seen_numbers colors.now) }
     ensures { AreSeenByValue k (map seen_numbers colors.now) parts.new }
 {
@@ -236,9 +241,10 @@ pub(crate) fn sum_values(parts: &mut [SeenSums; 256], colors: &[Seen], k: usize)
     }
 }
 
-/// Does what [`sum_values`] does.
+/// Sets the sums of the colors of each value of channel `k`. It is inlined, so that `k` is a
+/// constant where it is known.
 #[inline(always)]
-fn sum_values_in(parts: &mut [SeenSums; 256], colors: &[Seen], k: usize)
+fn sum_values_in(parts: &mut [SeenSums; 256], colors: &[SeenColor], k: usize)
     requires { All AreSeen (map seen_numbers colors.now) }
     ensures { AreSeenByValue k (map seen_numbers colors.now) parts.new }
 {

@@ -1,28 +1,32 @@
 //! Colors that are seen over black and over white, sixteen at a time.
 ghost use Rattle.std.specs.Prelude.{◌≡◌, ◌+◌, ◌<◌, ◌≤◌, All, length, map};
-ghost use Rattle.pix_table.specs.Nearest.{distance, numbers};
-ghost use Rattle.pix_table.specs.ColorBlocks.{channels_in};
-ghost use Rattle.pix_table.specs.Seen.{AreSeen, over_white, seen_numbers};
-ghost use Rattle.pix_table.specs.SeenLanes.{AreViews, over_black};
+ghost use Rattle.pix_table.specs.matching.Nearest.{distance, numbers};
+ghost use Rattle.pix_table.specs.threshold.ColorBlocks.{channels_in};
+ghost use Rattle.pix_table.specs.SeenPixels.{AreSeen, over_white, seen_numbers};
+ghost use Rattle.pix_table.specs.matching.SeenLanes.{AreViews, over_black};
 
-use crate::chosen::ENTRIES;
 use crate::color::Color;
-use crate::color_block::ColorBlock;
-use crate::lanes::{LaneBlock, added, distances, sums, wide_distances};
-use crate::rgba::color::Seen;
+use crate::matching::candidates::ENTRIES;
+use crate::matching::lanes::{LaneBlock, added, distances, sums, wide_distances};
+use crate::rgba::color::SeenColor;
+use crate::threshold::color_block::ColorBlock;
 use std::simd::prelude::*;
 
 /// A color over black and over white.
 #[derive(Clone, Copy)]
 pub(crate) struct Views {
+    /// The color over black.
     pub(crate) black: Color,
+    /// The color over white.
     pub(crate) white: Color,
 }
 
 /// Sixteen colors over black and over white.
 #[derive(Clone, Copy)]
 pub(crate) struct SeenBlock {
+    /// The colors over black.
     pub(crate) black: ColorBlock,
+    /// The colors over white.
     pub(crate) white: ColorBlock,
 }
 
@@ -47,7 +51,7 @@ impl LaneBlock for SeenBlock {
 
 /// Returns how a color that is seen looks over black and over white.
 #[inline(always)]
-pub(crate) fn both_views(color: Seen) -> Views
+pub(crate) fn both_views(color: SeenColor) -> Views
     requires { AreSeen (seen_numbers color) }
     ensures black { numbers result.black ≡ over_black (seen_numbers color) }
     ensures white { numbers result.white ≡ over_white (seen_numbers color) }
@@ -68,7 +72,7 @@ pub(crate) fn both_views(color: Seen) -> Views
 }
 
 /// Returns how each of some colors looks over black and over white, and behind them the last one.
-pub(crate) fn views_of(entries: &[Seen]) -> ([Color; ENTRIES], [Color; ENTRIES])
+pub(crate) fn views_of(entries: &[SeenColor]) -> ([Color; ENTRIES], [Color; ENTRIES])
     requires some { 0 < length entries.now }
     requires few { length entries.now ≤ 256 }
     requires seen { All AreSeen (map seen_numbers entries.now) }

@@ -4,12 +4,12 @@ use Rattle.std.proofs.Common.{◌≡◌, ◌+◌, ◌-◌, ◌%◌, ◌<◌, ◌
 use Rattle.std.proofs.Math.Nat.{zero-mod}
 use Rattle.std.proofs.lemmas.Bool.{cases_lt}
 use Rattle.std.proofs.lemmas.List.{length-map, get_or-map}
-use Rattle.pix_table.specs.Nearest.{IsNearestBy, alpha_of}
-use Rattle.pix_table.specs.Diffusion.{in_picture, wanted_at, held_to}
-use Rattle.pix_table.specs.Done.{AreLatest, AreNeighborErrors, IsColorError, IsColorErrorAbove}
-use Rattle.pix_table.proofs.Diffused.{none_done, no_miss, clear_done, shown_done, alike, turned_as}
-use Rattle.pix_table.proofs.NearErrors.{everywhere}
-use Rattle.pix_table.proofs.ScanOrders.{begins, in_picture_below}
+use Rattle.pix_table.specs.matching.Nearest.{IsNearestBy, alpha_of}
+use Rattle.pix_table.specs.diffuse.Diffusion.{in_picture, wanted_at, held_to}
+use Rattle.pix_table.specs.diffuse.Done.{AreLatest, AreNeighborErrors, IsColorError, IsColorErrorAbove}
+use Rattle.pix_table.proofs.lemmas.diffuse.Diffused.{none_done, no_miss, clear_done, shown_done, alike, turned_as}
+use Rattle.pix_table.proofs.lemmas.diffuse.NearErrors.{everywhere}
+use Rattle.pix_table.proofs.lemmas.diffuse.ScanOrders.{begins, in_picture_below}
 use Rattle.pix_table.proofs.diffuse.diffuse_all.Goals as goal
 use Rattle.pix_table.proofs.diffuse.diffuse_all.Goals.{then-clear, else-clear}
 

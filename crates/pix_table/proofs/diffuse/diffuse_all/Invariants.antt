@@ -1,8 +1,8 @@
 -- What holds at each turn of the loop over `k` in `diffuse_all`.
 use Rattle.std.proofs.Common.{◌≡◌, ◌%◌, ◌<◌, ◌≤◌, ℕ, [], map, get_or}
-use Rattle.pix_table.specs.Diffusion.{in_picture, is_back}
-use Rattle.pix_table.specs.Nearest.{alpha_of}
-use Rattle.pix_table.specs.Done.{AreDone}
+use Rattle.pix_table.specs.diffuse.Diffusion.{in_picture, is_back}
+use Rattle.pix_table.specs.matching.Nearest.{alpha_of}
+use Rattle.pix_table.specs.diffuse.Done.{AreDone}
 use Rattle.pix_table.proofs.diffuse.diffuse_all.Given as goal
 
 -- the first k pixels of the scan are diffused

@@ -1,6 +1,6 @@
 -- Of `place_of`: that the place is no greater than a `usize` can be.
 use Rattle.std.proofs.Common.{◌≡◌, ◌+◌, ◌-◌, ◌%◌, ◌^◌, ◌<◌, true, arith, sym, ◌∙◌, subst, if◌then◌else◌}
-use Rattle.pix_table.specs.Diffusion.{is_back}
+use Rattle.pix_table.specs.diffuse.Diffusion.{is_back}
 use Rattle.pix_table.proofs.diffuse.place_of.Goals as goal
 
 pub overflow_add-result-then-back : goal.overflow_add-result-then-back

@@ -3,8 +3,8 @@ use Rattle.std.proofs.Common.{◌≡◌, ℕ, ◌+◌, ◌-◌, ◌<◌, ◌≤�
 use Rattle.std.proofs.lemmas.Bool.{lt-ltb, le-ltb}
 use Rattle.std.proofs.lemmas.Bool.Decides.{nat_tests}
 use Rattle.std.proofs.Math.Nat.{mod-eq_of_lt}
-use Rattle.pix_table.proofs.Diffused.{moved}
-use Rattle.pix_table.proofs.ScanOrders.{same_test}
+use Rattle.pix_table.proofs.lemmas.diffuse.Diffused.{moved}
+use Rattle.pix_table.proofs.lemmas.diffuse.ScanOrders.{same_test}
 use Rattle.pix_table.proofs.diffuse.right_above.Goals as goal
 use Rattle.pix_table.proofs.diffuse.right_above.Goals.{then-column-how, else-column-how}
 

@@ -1,9 +1,9 @@
 -- Of `turned`: in which direction the next row goes, and that the colors of a row are put in its order.
 use Rattle.std.proofs.Common.{◌≡◌, ◌+◌, ◌-◌, ◌%◌, map, not, arith, sym, ap, ◌∙◌, subst}
-use Rattle.pix_table.specs.Diffusion.{is_back}
-use Rattle.pix_table.specs.Done.{AreLatest}
-use Rattle.pix_table.proofs.Diffused.{on_in_row, straight_on, turned_round}
-use Rattle.pix_table.proofs.ScanOrders.{goes_on, keeps_on, at_end, turns}
+use Rattle.pix_table.specs.diffuse.Diffusion.{is_back}
+use Rattle.pix_table.specs.diffuse.Done.{AreLatest}
+use Rattle.pix_table.proofs.lemmas.diffuse.Diffused.{on_in_row, straight_on, turned_round}
+use Rattle.pix_table.proofs.lemmas.diffuse.ScanOrders.{goes_on, keeps_on, at_end, turns}
 use Rattle.pix_table.proofs.diffuse.turned.Goals as goal
 
 pub returns-then-next-gt0-clause-back : goal.returns-then-next-gt0-clause-back

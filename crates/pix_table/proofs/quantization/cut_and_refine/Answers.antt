@@ -2,10 +2,10 @@
 use Rattle.std.proofs.Common.{◌≡◌, ◌++◌, ◌<◌, length, map, take, drop, sum_by, arith, sym, ◌∙◌, subst, take_all, length-take}
 use Rattle.std.specs.Simd.{first_chunks}
 use Rattle.std.proofs.lemmas.List.{length-map, take-append-le}
-use Rattle.pix_table.specs.Items.{pair_items, times_of}
-use Rattle.pix_table.specs.Nearest.{numbers}
-use Rattle.pix_table.specs.Refine.{IsRefinedCut}
-use Rattle.pix_table.proofs.PairItems.{some_pairs, times_in_all}
+use Rattle.pix_table.specs.quantization.Items.{pair_items, times_of}
+use Rattle.pix_table.specs.matching.Nearest.{numbers}
+use Rattle.pix_table.specs.quantization.Refine.{IsRefinedCut}
+use Rattle.pix_table.proofs.lemmas.quantization.PairItems.{some_pairs, times_in_all}
 use Rattle.pix_table.proofs.quantization.cut_and_refine.Goals as goal
 
 pub refined_of_pairs-requires-clause-some : goal.refined_of_pairs-requires-clause-some

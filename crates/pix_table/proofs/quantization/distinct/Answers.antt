@@ -4,11 +4,11 @@ use Rattle.std.proofs.Common.{◌≡◌, ◌+◌, [], ◌∷◌, ◌++◌, lengt
 use Rattle.std.specs.List.{list_any}
 use Rattle.std.proofs.lemmas.List.{length-map, map-append, take_more_set, get_or_default}
 use Rattle.std.proofs.lemmas.List.Folds.{list_any_at}
-use Rattle.pix_table.specs.Nearest.{numbers}
-use Rattle.pix_table.specs.Quantization.{distinct, same_color}
+use Rattle.pix_table.specs.matching.Nearest.{numbers}
+use Rattle.pix_table.specs.quantization.Quantization.{distinct, same_color}
 use Rattle.pix_table.specs.declared.color.Color.{Color}
-use Rattle.pix_table.proofs.BoxSpans.{map_more}
-use Rattle.pix_table.proofs.Distinct.{known_more, new_more, distinct_first, parted_at}
+use Rattle.pix_table.proofs.lemmas.quantization.BoxSpans.{map_more}
+use Rattle.pix_table.proofs.lemmas.matching.Distinct.{known_more, new_more, distinct_first, parted_at}
 use Rattle.pix_table.proofs.quantization.distinct.Goals as goal
 use Rattle.pix_table.proofs.quantization.distinct.Goals.{in-Some, in-None+else-count-entries}
 

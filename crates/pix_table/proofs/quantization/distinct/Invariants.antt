@@ -1,7 +1,7 @@
 -- What holds at each turn of the loop over `i` in `distinct`.
 use Rattle.std.proofs.Common.{◌≡◌, ◌≤◌, length, map, take}
-use Rattle.pix_table.specs.Nearest.{numbers}
-use Rattle.pix_table.specs.Quantization.{distinct}
+use Rattle.pix_table.specs.matching.Nearest.{numbers}
+use Rattle.pix_table.specs.quantization.Quantization.{distinct}
 use Rattle.pix_table.proofs.quantization.distinct.Given as goal
 
 -- the distinct ones of the first i colors are written

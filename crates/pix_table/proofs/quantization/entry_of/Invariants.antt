@@ -1,8 +1,8 @@
 -- What holds at each turn of the loop over `i` in `entry_of`.
 use Rattle.std.proofs.Common.{◌≡◌, map, take, false}
 use Rattle.std.specs.List.{list_any}
-use Rattle.pix_table.specs.Nearest.{numbers}
-use Rattle.pix_table.specs.Quantization.{same_color}
+use Rattle.pix_table.specs.matching.Nearest.{numbers}
+use Rattle.pix_table.specs.quantization.Quantization.{same_color}
 use Rattle.pix_table.proofs.quantization.entry_of.Given as goal
 
 -- the color is not among the first i entries

@@ -1,7 +1,7 @@
 -- What holds at each turn of the loop over `i` in `gather`.
 use Rattle.std.proofs.Common.{◌≡◌, ◌≤◌, map, take}
-use Rattle.pix_table.specs.Nearest.{numbers}
-use Rattle.pix_table.specs.Quantization.{shown}
+use Rattle.pix_table.specs.matching.Nearest.{numbers}
+use Rattle.pix_table.specs.quantization.Quantization.{shown}
 use Rattle.pix_table.proofs.quantization.gather.Given as goal
 
 -- those of the first i pixels are gathered

@@ -1,8 +1,8 @@
 -- Of `quantize`: that no rounds leave the table of the cut.
 use Rattle.std.proofs.Common.{map, take, length}
-use Rattle.pix_table.specs.Quantization.{shown}
-use Rattle.pix_table.specs.Nearest.{numbers}
-use Rattle.pix_table.proofs.TableRounds.{of_some, unrefined}
+use Rattle.pix_table.specs.quantization.Quantization.{shown}
+use Rattle.pix_table.specs.matching.Nearest.{numbers}
+use Rattle.pix_table.proofs.lemmas.quantization.TableRounds.{of_some, unrefined}
 use Rattle.pix_table.proofs.quantization.quantize.Goals as goal
 
 pub returns-clause-table : goal.returns-clause-table

@@ -2,9 +2,9 @@
 use Rattle.std.proofs.Common.{◌++◌, ◌<◌, IsPermutation, map, take, drop, length, arith, ap, ◌∙◌, refl, sym, subst, take_all, length-take}
 use Rattle.std.proofs.lemmas.List.{take-append-le}
 use Rattle.std.proofs.lemmas.List.Sorted.{IsPermutation-refl, IsPermutation-sym}
-use Rattle.pix_table.specs.Nearest.{numbers}
-use Rattle.pix_table.proofs.Singles.{singles_are, singles_count, singles_moved, spread_singles}
-use Rattle.pix_table.proofs.TableRounds.{refined_moved}
+use Rattle.pix_table.specs.matching.Nearest.{numbers}
+use Rattle.pix_table.proofs.lemmas.quantization.Singles.{singles_are, singles_count, singles_moved, spread_singles}
+use Rattle.pix_table.proofs.lemmas.quantization.TableRounds.{refined_moved}
 use Rattle.pix_table.proofs.quantization.refined_of_colors.Goals as goal
 
 pub cut_table-count-requires-clause-fit : goal.cut_table-count-requires-clause-fit

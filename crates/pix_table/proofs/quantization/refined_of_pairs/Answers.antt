@@ -3,11 +3,11 @@ use Rattle.std.proofs.Common.{◌≡◌, ◌++◌, ◌<◌, All, IsPermutation, 
 use Rattle.std.specs.Simd.{first_chunks}
 use Rattle.std.proofs.lemmas.List.{take-append-le}
 use Rattle.std.proofs.lemmas.List.Sorted.{All-permutation, IsPermutation-refl, IsPermutation-trans, sum_by-IsPermutation}
-use Rattle.pix_table.specs.Items.{IsItem, pair_items, spread, times_of}
-use Rattle.pix_table.specs.Nearest.{numbers}
-use Rattle.pix_table.proofs.ItemLists.{spread-moved}
-use Rattle.pix_table.proofs.PairItems.{pairs_taken}
-use Rattle.pix_table.proofs.TableRounds.{refined_moved}
+use Rattle.pix_table.specs.quantization.Items.{IsItem, pair_items, spread, times_of}
+use Rattle.pix_table.specs.matching.Nearest.{numbers}
+use Rattle.pix_table.proofs.lemmas.quantization.ItemLists.{spread-moved}
+use Rattle.pix_table.proofs.lemmas.quantization.PairItems.{pairs_taken}
+use Rattle.pix_table.proofs.lemmas.quantization.TableRounds.{refined_moved}
 use Rattle.pix_table.proofs.quantization.refined_of_pairs.Goals as goal
 
 pub cut_table-count-requires-clause-fit : goal.cut_table-count-requires-clause-fit

@@ -1,7 +1,7 @@
 -- Of `closest`: the clause `found`.
 use Rattle.std.proofs.Common.{arith}
 use Rattle.std.proofs.lemmas.List.{length-map}
-use Rattle.pix_table.proofs.PaletteMatches.{best_match}
+use Rattle.pix_table.proofs.lemmas.threshold.PaletteMatches.{best_match}
 use Rattle.pix_table.proofs.threshold.closest.Goals as goal
 
 pub returns-clause-found : goal.returns-clause-found

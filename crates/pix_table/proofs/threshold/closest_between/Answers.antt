@@ -1,10 +1,10 @@
 -- Of `closest_between`: that the invariant of its loop over `i` holds after each turn.
 use Rattle.std.proofs.Common.{◌≡◌, ◌+◌, [], map, get_or, true, false, sym, ap, ◌∙◌, arith, subst}
 use Rattle.std.proofs.lemmas.List.{get_or-map}
-use Rattle.pix_table.specs.ColorBlocks.{IsBest}
-use Rattle.pix_table.specs.Nearest.{numbers}
-use Rattle.pix_table.specs.PaletteMatch.{color_difference, difference_to, is_closer, is_within}
-use Rattle.pix_table.proofs.PaletteMatches.{best_closer, best_stays, far_stays}
+use Rattle.pix_table.specs.threshold.ColorBlocks.{IsBest}
+use Rattle.pix_table.specs.matching.Nearest.{numbers}
+use Rattle.pix_table.specs.threshold.PaletteMatch.{color_difference, difference_to, is_closer, is_within}
+use Rattle.pix_table.proofs.lemmas.threshold.PaletteMatches.{best_closer, best_stays, far_stays}
 use Rattle.pix_table.proofs.threshold.closest_between.Goals as goal
 use Rattle.pix_table.proofs.threshold.closest_between.Goals.{then-is_near+then-is_closer, then-is_near+else-is_closer, else-is_near}
 

@@ -1,7 +1,7 @@
 -- What holds at each turn of the loop over `i` in `closest_between`.
 use Rattle.std.proofs.Common.{map}
-use Rattle.pix_table.specs.Nearest.{numbers}
-use Rattle.pix_table.specs.ColorBlocks.{IsBest}
+use Rattle.pix_table.specs.matching.Nearest.{numbers}
+use Rattle.pix_table.specs.threshold.ColorBlocks.{IsBest}
 use Rattle.pix_table.proofs.threshold.closest_between.Given as goal
 
 -- `at` is the match among the first i colors, and `least` its difference

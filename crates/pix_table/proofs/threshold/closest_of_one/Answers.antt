@@ -1,9 +1,9 @@
 -- Of `closest_of_one`: that entry 0 is the first candidate.
 use Rattle.std.proofs.Common.{◌≡◌, [], map, get_or, sym, ap, ◌∙◌, arith}
 use Rattle.std.proofs.lemmas.List.{get_or-map}
-use Rattle.pix_table.specs.Nearest.{numbers}
-use Rattle.pix_table.specs.PaletteMatch.{color_difference}
-use Rattle.pix_table.proofs.PaletteMatches.{best_first}
+use Rattle.pix_table.specs.matching.Nearest.{numbers}
+use Rattle.pix_table.specs.threshold.PaletteMatch.{color_difference}
+use Rattle.pix_table.proofs.lemmas.threshold.PaletteMatches.{best_first}
 use Rattle.pix_table.proofs.threshold.closest_of_one.Goals as goal
 
 pub returns : goal.returns

@@ -1,7 +1,7 @@
 -- What holds at each turn of the loop over `i` in `look_up_pixels`.
 use Rattle.std.proofs.Common.{◌≡◌, ◌<◌, ℕ, length, drop, get_or}
 use Rattle.std.specs.Prelude.{slice_get}
-use Rattle.pix_table.specs.LookUp.{all_below}
+use Rattle.pix_table.specs.packing.LookUp.{all_below}
 use Rattle.pix_palette.specs.Indexing.{values}
 use Rattle.pix_palette.proofs.palette.mapped.look_up_pixels.Given as goal
 

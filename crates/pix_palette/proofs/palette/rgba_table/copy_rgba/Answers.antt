@@ -1,7 +1,7 @@
 -- Of `copy_rgba`: its clause, and that the invariant of its loop over `i` holds after each turn.
 use Rattle.std.proofs.Common.{◌≡◌, length, map, get_or, length-set, sym, ap, ◌∙◌, arith}
 use Rattle.std.proofs.lemmas.List.{take_all, get_or_default}
-use Rattle.pix_table.specs.Seen.{rgba_numbers}
+use Rattle.pix_table.specs.SeenPixels.{rgba_numbers}
 use Rattle.pix_table.specs.SrgbColor.{srgba_numbers}
 use Rattle.pix_table.specs.declared.rgba.color.RgbaColor.{RgbaColor}
 use Rattle.pix_table.proofs.Writes.{copy_more}

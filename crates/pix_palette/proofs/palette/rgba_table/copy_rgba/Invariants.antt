@@ -1,6 +1,6 @@
 -- What holds at each turn of the loop over `i` in `copy_rgba`.
 use Rattle.std.proofs.Common.{◌≡◌, length, map, take}
-use Rattle.pix_table.specs.Seen.{rgba_numbers}
+use Rattle.pix_table.specs.SeenPixels.{rgba_numbers}
 use Rattle.pix_table.specs.SrgbColor.{srgba_numbers}
 use Rattle.pix_palette.proofs.palette.rgba_table.copy_rgba.Given as goal
 

@@ -1,7 +1,7 @@
 -- Of `quantized_rgba_table`: that without pixels the table has no entry.
 use Rattle.std.proofs.Common.{sym}
 use Rattle.std.proofs.lemmas.Bool.{true≢false}
-use Rattle.pix_table.specs.Seen.{rgba_numbers}
+use Rattle.pix_table.specs.SeenPixels.{rgba_numbers}
 use Rattle.pix_table.specs.SrgbColor.{srgba_numbers}
 use Rattle.pix_palette.proofs.NoPoints.{none_written}
 use Rattle.pix_palette.proofs.palette.rgba_table.quantized_rgba_table.Goals as goal

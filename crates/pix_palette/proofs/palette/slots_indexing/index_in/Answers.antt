@@ -3,7 +3,7 @@
 use Rattle.std.specs.Prelude.{IfSome}
 use Rattle.std.proofs.Common.{◌≡◌, ◌<◌, Some, refl, ◌∙◌, arith, rules}
 use Rattle.pix_palette.specs.Indexing.{values}
-use Rattle.pix_table.proofs.IndexingSets.{none_set, one_set, stopped, before_less}
+use Rattle.pix_table.proofs.lemmas.threshold.IndexingSets.{none_set, one_set, stopped, before_less}
 use Rattle.pix_palette.proofs.IndexingSets.{color_at, value_more, many_colors, gray_more}
 use Rattle.pix_palette.proofs.palette.slots_indexing.index_in.Goals as goal
 

@@ -1,11 +1,11 @@
 -- What holds at each turn of the loop over `i` in `index_in`.
 use Rattle.std.proofs.Common.{◌≡◌, ◌≤◌, ◌∷◌, [], length, map, take}
-use Rattle.pix_table.specs.TableBlocks.{IsTableCache}
-use Rattle.pix_table.specs.Setting.{Always, IsSet}
-use Rattle.pix_table.proofs.IndexingSets.{AreSetBelow}
+use Rattle.pix_table.specs.threshold.TableBlocks.{IsTableCache}
+use Rattle.pix_table.specs.threshold.Setting.{Always, IsSet}
+use Rattle.pix_table.proofs.lemmas.threshold.IndexingSets.{AreSetBelow}
 use Rattle.pix_palette.specs.Palette.{numbers}
 use Rattle.pix_palette.specs.Indexing.{colors_of, values}
-use Rattle.pix_table.specs.Nearest as nearest
+use Rattle.pix_table.specs.matching.Nearest as nearest
 use Rattle.pix_palette.proofs.palette.slots_indexing.index_in.Given as goal
 
 -- the first i pixels have been set

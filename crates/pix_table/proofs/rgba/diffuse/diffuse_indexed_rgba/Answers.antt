@@ -1,13 +1,13 @@
 -- Of `diffuse_indexed_rgba`: the entries and the pixels as they are seen.
 use Rattle.std.proofs.Common.{◌≡◌, ℕ, List, map, sym, subst}
 use Rattle.std.proofs.lemmas.Simd.{map-map}
-use Rattle.pix_table.specs.Nearest.{IsNearestBy}
-use Rattle.pix_table.specs.ErrorBound.{IsErrorBound}
-use Rattle.pix_table.specs.Diffusion.{IsDiffusedScan, AreShownAroundBy}
-use Rattle.pix_table.specs.Seen.{seen, seen_distance}
-use Rattle.pix_table.specs.SeenDiffusion.{seen_of_channels}
-use Rattle.pix_table.specs.SeenLanes.{AreSeenLanes}
-use Rattle.pix_table.proofs.NearErrors.{seen_around}
+use Rattle.pix_table.specs.matching.Nearest.{IsNearestBy}
+use Rattle.pix_table.specs.diffuse.ErrorBound.{IsErrorBound}
+use Rattle.pix_table.specs.diffuse.Diffusion.{IsDiffusedScan, AreShownAroundBy}
+use Rattle.pix_table.specs.SeenPixels.{seen, seen_distance}
+use Rattle.pix_table.specs.diffuse.SeenDiffusion.{seen_of_channels}
+use Rattle.pix_table.specs.matching.SeenLanes.{AreSeenLanes}
+use Rattle.pix_table.proofs.lemmas.diffuse.NearErrors.{seen_around}
 use Rattle.pix_table.proofs.rgba.diffuse.diffuse_indexed_rgba.Goals as goal
 
 pub returns-clause-diffused : goal.returns-clause-diffused

@@ -1,9 +1,9 @@
 -- Of `is_no_worse`: that the numbers fit, and what they tell.
 use Rattle.std.proofs.Common.{◌≡◌, ◌-◌, ◌*◌, ◌≤◌, ◌∙◌, arith, refl}
 use Rattle.std.proofs.Math.Nat.{mul-le-mul_left}
-use Rattle.pix_table.specs.Seen.{seen_numbers}
-use Rattle.pix_table.specs.SeenGroups.{product_by}
-use Rattle.pix_table.proofs.SeenErrors.{compared, sums_few, terms_few}
+use Rattle.pix_table.specs.SeenPixels.{seen_numbers}
+use Rattle.pix_table.specs.quantization.SeenGroups.{product_by}
+use Rattle.pix_table.proofs.lemmas.quantization.SeenErrors.{compared, sums_few, terms_few}
 use Rattle.pix_table.proofs.rgba.groups.is_no_worse.Goals as goal
 
 pub overflow_sub-all : goal.overflow_sub-all

@@ -1,8 +1,8 @@
 -- Of `mean_of`: that the mean of seen colors is one.
 use Rattle.std.proofs.Common.{subst, sym}
-use Rattle.pix_table.specs.Seen.{AreSeen}
-use Rattle.pix_table.proofs.SeenErrors.{mean_by_sums, sums_few}
-use Rattle.pix_table.proofs.SeenTable.{mean_of_box}
+use Rattle.pix_table.specs.SeenPixels.{AreSeen}
+use Rattle.pix_table.proofs.lemmas.quantization.SeenErrors.{mean_by_sums, sums_few}
+use Rattle.pix_table.proofs.lemmas.quantization.SeenTable.{mean_of_box}
 use Rattle.pix_table.proofs.rgba.groups.mean_of.Goals as goal
 
 pub mean-requires-clause-few : goal.mean-requires-clause-few

@@ -1,7 +1,7 @@
 -- Of `settled`: where the entry goes.
 use Rattle.std.proofs.Common.{◌∙◌, arith, false, sym, true}
-use Rattle.pix_table.specs.Seen.{seen_numbers}
-use Rattle.pix_table.proofs.SeenErrors.{settled_some}
+use Rattle.pix_table.specs.SeenPixels.{seen_numbers}
+use Rattle.pix_table.proofs.lemmas.quantization.SeenErrors.{settled_some}
 use Rattle.pix_table.proofs.rgba.groups.settled.Goals as goal
 
 pub returns-then-is_no_worse-clause-settled : goal.returns-then-is_no_worse-clause-settled

@@ -1,11 +1,11 @@
 -- Of `add_item`: that the sums are few, and that the colors of the item are added.
 use Rattle.std.proofs.Common.{arith, map, refl, ◌∙◌}
 use Rattle.std.proofs.lemmas.List.{length-map}
-use Rattle.pix_table.specs.BestPlaces.{is_at}
-use Rattle.pix_table.specs.Items.{item_of}
-use Rattle.pix_table.specs.Seen.{seen_numbers}
-use Rattle.pix_table.proofs.SeenItems.{alone_few, item_at, item_values_more}
-use Rattle.pix_table.proofs.SeenSumLemmas.{are_few, count_few, value_sums}
+use Rattle.pix_table.specs.quantization.BestPlaces.{is_at}
+use Rattle.pix_table.specs.quantization.Items.{item_of}
+use Rattle.pix_table.specs.SeenPixels.{seen_numbers}
+use Rattle.pix_table.proofs.lemmas.quantization.SeenItems.{alone_few, item_at, item_values_more}
+use Rattle.pix_table.proofs.lemmas.quantization.SeenSumLemmas.{are_few, count_few, value_sums}
 use Rattle.pix_table.proofs.rgba.items.add_item.Goals as goal
 
 pub bounds-parts-value : goal.bounds-parts-value

@@ -1,7 +1,7 @@
 -- Of `add_items`: that the sums are those of one item more after each turn.
 use Rattle.std.proofs.Common.{[], get_or, map}
 use Rattle.std.proofs.lemmas.List.{get_or_default}
-use Rattle.pix_table.proofs.SeenItems.{added_few, next_item, values_next}
+use Rattle.pix_table.proofs.lemmas.quantization.SeenItems.{added_few, next_item, values_next}
 use Rattle.pix_table.proofs.rgba.items.add_items.Goals as goal
 
 pub add_item-requires-clause-sums : goal.add_item-requires-clause-sums

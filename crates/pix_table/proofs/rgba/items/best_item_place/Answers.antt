@@ -1,11 +1,11 @@
 -- Of `best_item_place`: that one item cannot be cut, and how many colors there are.
 use Rattle.std.proofs.Common.{arith, map}
 use Rattle.std.proofs.lemmas.List.{length-map}
-use Rattle.pix_table.specs.Items.{item_of, pair_items, spread}
-use Rattle.pix_table.specs.Seen.{seen_numbers}
-use Rattle.pix_table.proofs.ItemLists.{length-spread}
-use Rattle.pix_table.proofs.PlaceSteps.{one_alone}
-use Rattle.pix_table.proofs.SeenSumLemmas.{whole_count}
+use Rattle.pix_table.specs.quantization.Items.{item_of, pair_items, spread}
+use Rattle.pix_table.specs.SeenPixels.{seen_numbers}
+use Rattle.pix_table.proofs.lemmas.quantization.ItemLists.{length-spread}
+use Rattle.pix_table.proofs.lemmas.quantization.PlaceSteps.{one_alone}
+use Rattle.pix_table.proofs.lemmas.quantization.SeenSumLemmas.{whole_count}
 use Rattle.pix_table.proofs.rgba.items.best_item_place.Goals as goal
 
 pub returns-then-items-lt2 : goal.returns-then-items-lt2

@@ -1,13 +1,13 @@
 -- Of `best_of_few`: that the sums at first are those of no colors, and that they are those of the items.
-use Rattle.pix_table.specs.Items.{pair_items, spread}
-use Rattle.pix_table.specs.PartSums.{few_sums}
-use Rattle.pix_table.specs.Seen.{seen_numbers}
-use Rattle.pix_table.specs.SeenCut.{seen_weight}
-use Rattle.pix_table.specs.SeenSums.{seen_gain_at}
-use Rattle.pix_table.proofs.ItemCuts.{place_of_items}
-use Rattle.pix_table.proofs.PlaceSteps.{best_found, none_first}
-use Rattle.pix_table.proofs.SeenItems.{few_summed, items_are, items_seen, none_of_values}
-use Rattle.pix_table.proofs.SeenWeights.{cut_gain}
+use Rattle.pix_table.specs.quantization.Items.{pair_items, spread}
+use Rattle.pix_table.specs.quantization.PartSums.{few_sums}
+use Rattle.pix_table.specs.SeenPixels.{seen_numbers}
+use Rattle.pix_table.specs.quantization.SeenCut.{seen_weight}
+use Rattle.pix_table.specs.quantization.SeenSums.{seen_gain_at}
+use Rattle.pix_table.proofs.lemmas.quantization.ItemCuts.{place_of_items}
+use Rattle.pix_table.proofs.lemmas.quantization.PlaceSteps.{best_found, none_first}
+use Rattle.pix_table.proofs.lemmas.quantization.SeenItems.{few_summed, items_are, items_seen, none_of_values}
+use Rattle.pix_table.proofs.lemmas.quantization.SeenWeights.{cut_gain}
 use Rattle.pix_table.proofs.rgba.items.best_of_few.Goals as goal
 
 pub add_items-requires-clause-red_none : goal.add_items-requires-clause-red_none

@@ -1,15 +1,15 @@
 -- Of `best_of_many`: that there is no place before the first, and its clause at each return.
 use Rattle.std.proofs.Common.{◌<◌, arith, length, subst, map}
 use Rattle.std.proofs.lemmas.List.{length-map, length-replicate}
-use Rattle.pix_table.specs.BestPlaces.{IsBestUpToBy}
-use Rattle.pix_table.specs.Items.{item_of, pair_items, spread}
-use Rattle.pix_table.specs.Seen.{seen_numbers}
-use Rattle.pix_table.specs.SeenCut.{seen_weight}
-use Rattle.pix_table.specs.SeenSums.{seen_gain_at}
-use Rattle.pix_table.proofs.ItemCuts.{place_of_items}
-use Rattle.pix_table.proofs.PlaceSteps.{best_found, none_first}
-use Rattle.pix_table.proofs.SeenItems.{items_are, items_seen, items_summed}
-use Rattle.pix_table.proofs.SeenWeights.{cut_gain}
+use Rattle.pix_table.specs.quantization.BestPlaces.{IsBestUpToBy}
+use Rattle.pix_table.specs.quantization.Items.{item_of, pair_items, spread}
+use Rattle.pix_table.specs.SeenPixels.{seen_numbers}
+use Rattle.pix_table.specs.quantization.SeenCut.{seen_weight}
+use Rattle.pix_table.specs.quantization.SeenSums.{seen_gain_at}
+use Rattle.pix_table.proofs.lemmas.quantization.ItemCuts.{place_of_items}
+use Rattle.pix_table.proofs.lemmas.quantization.PlaceSteps.{best_found, none_first}
+use Rattle.pix_table.proofs.lemmas.quantization.SeenItems.{items_are, items_seen, items_summed}
+use Rattle.pix_table.proofs.lemmas.quantization.SeenWeights.{cut_gain}
 use Rattle.pix_table.proofs.rgba.items.best_of_many.Goals as goal
 
 pub loop-k-init : goal.loop-k-init

@@ -1,12 +1,12 @@
 -- Of `cut_seen_table`: that the table is that of the colors, which are seen.
 use Rattle.std.proofs.Common.{length, map}
 use Rattle.std.proofs.lemmas.List.Sorted.{IsPermutation-refl}
-use Rattle.pix_table.specs.Items.{spread}
-use Rattle.pix_table.specs.SeenCut.{seen_mean, seen_weight}
-use Rattle.pix_table.proofs.ItemTables.{table_of_items}
-use Rattle.pix_table.proofs.MovedBoxes.{seen_mean_moved, seen_weight_moved}
-use Rattle.pix_table.proofs.SeenItems.{items_are, items_seen}
-use Rattle.pix_table.proofs.SeenTable.{table_seen}
+use Rattle.pix_table.specs.quantization.Items.{spread}
+use Rattle.pix_table.specs.quantization.SeenCut.{seen_mean, seen_weight}
+use Rattle.pix_table.proofs.lemmas.quantization.ItemTables.{table_of_items}
+use Rattle.pix_table.proofs.lemmas.quantization.MovedBoxes.{seen_mean_moved, seen_weight_moved}
+use Rattle.pix_table.proofs.lemmas.quantization.SeenItems.{items_are, items_seen}
+use Rattle.pix_table.proofs.lemmas.quantization.SeenTable.{table_seen}
 use Rattle.pix_table.proofs.rgba.items.cut_seen_table.Goals as goal
 
 pub returns-clause-table : goal.returns-clause-table

@@ -1,12 +1,12 @@
 -- Of `item_sums_of`: that the sums are few, and that they are of one item more after each turn.
 use Rattle.std.proofs.Common.{◌≡◌, true, [], take, get_or, arith, refl, sym, subst}
 use Rattle.std.proofs.lemmas.List.{get_or_default}
-use Rattle.pix_table.specs.Items.{pair_items, spread}
-use Rattle.pix_table.specs.Seen.{seen_numbers}
-use Rattle.pix_table.specs.SeenSums.{AreSeenSums}
-use Rattle.pix_table.proofs.GroupLemmas.{seen_joined}
-use Rattle.pix_table.proofs.SeenItems.{alone_few, first_items, items_seen, next_few, next_item, spread_more}
-use Rattle.pix_table.proofs.SeenSumLemmas.{are_few, count_few}
+use Rattle.pix_table.specs.quantization.Items.{pair_items, spread}
+use Rattle.pix_table.specs.SeenPixels.{seen_numbers}
+use Rattle.pix_table.specs.quantization.SeenSums.{AreSeenSums}
+use Rattle.pix_table.proofs.lemmas.quantization.GroupLemmas.{seen_joined}
+use Rattle.pix_table.proofs.lemmas.quantization.SeenItems.{alone_few, first_items, items_seen, next_few, next_item, spread_more}
+use Rattle.pix_table.proofs.lemmas.quantization.SeenSumLemmas.{are_few, count_few}
 use Rattle.pix_table.proofs.rgba.items.item_sums_of.Goals as goal
 
 -- the item of a turn

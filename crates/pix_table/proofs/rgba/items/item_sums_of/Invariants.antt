@@ -1,8 +1,8 @@
 -- What holds at each turn of the loop over `i` in `item_sums_of`.
 use Rattle.std.proofs.Common.{true, take}
-use Rattle.pix_table.specs.Items.{pair_items, spread}
-use Rattle.pix_table.specs.Seen.{seen_numbers}
-use Rattle.pix_table.specs.SeenSums.{AreSeenSums}
+use Rattle.pix_table.specs.quantization.Items.{pair_items, spread}
+use Rattle.pix_table.specs.SeenPixels.{seen_numbers}
+use Rattle.pix_table.specs.quantization.SeenSums.{AreSeenSums}
 use Rattle.pix_table.proofs.rgba.items.item_sums_of.Given as goal
 
 -- they are the sums of the first i items

@@ -1,7 +1,7 @@
 -- Of `sum_by_value`: that the sums are those of no items at first, and of one item more after each turn.
 use Rattle.std.proofs.Common.{[], get_or, map, sym, ◌∙◌}
 use Rattle.std.proofs.lemmas.List.{get_or_default, length-map}
-use Rattle.pix_table.proofs.SeenItems.{added_few, next_item, no_values, values_next}
+use Rattle.pix_table.proofs.lemmas.quantization.SeenItems.{added_few, next_item, no_values, values_next}
 use Rattle.pix_table.proofs.rgba.items.sum_by_value.Goals as goal
 
 pub loop-i-init : goal.loop-i-init

@@ -2,9 +2,9 @@
 use Rattle.std.proofs.Common.{◌≡◌, ◌/◌, ◌<◌, arith, ap, get_or, length, subst, sym, ◌∙◌}
 use Rattle.std.proofs.lemmas.List.Elements.{All-set}
 use Rattle.std.proofs.Math.Nat.{div-mul-le_self}
-use Rattle.pix_table.specs.Nearest.{IsNearestBy}
-use Rattle.pix_table.specs.Seen.{seen, seen_distance, seen_numbers}
-use Rattle.pix_table.specs.SeenGroups.{seen_key_numbers}
+use Rattle.pix_table.specs.matching.Nearest.{IsNearestBy}
+use Rattle.pix_table.specs.SeenPixels.{seen, seen_distance, seen_numbers}
+use Rattle.pix_table.specs.quantization.SeenGroups.{seen_key_numbers}
 use Rattle.pix_table.specs.declared.rgba.matched.MatchedPixel.{MatchedPixel}
 use Rattle.pix_table.proofs.rgba.matched.index_of.Goals as goal
 

@@ -2,10 +2,10 @@
 use Rattle.std.proofs.Common.{arith, rules, ◌≡◌, ℕ, List, [], ap, sym, ◌∙◌, subst, map, get_or, length, length-set}
 use Rattle.std.proofs.lemmas.List.{get_or-map, length-map, length-replicate}
 use Rattle.std.proofs.lemmas.List.Elements.{All-replicate}
-use Rattle.pix_table.specs.Nearest.{IsNearestBy}
-use Rattle.pix_table.specs.Seen.{seen, seen_distance}
-use Rattle.pix_table.specs.SeenGroups.{seen_key_numbers}
-use Rattle.pix_table.specs.SeenLanes.{AreSeenLanes}
+use Rattle.pix_table.specs.matching.Nearest.{IsNearestBy}
+use Rattle.pix_table.specs.SeenPixels.{seen, seen_distance}
+use Rattle.pix_table.specs.quantization.SeenGroups.{seen_key_numbers}
+use Rattle.pix_table.specs.matching.SeenLanes.{AreSeenLanes}
 use Rattle.pix_table.specs.declared.rgba.matched.MatchedPixel.{MatchedPixel}
 use Rattle.pix_table.proofs.Writes.{set_more}
 use Rattle.pix_table.proofs.rgba.matched.map_indexed_rgba.Goals as goal

@@ -1,8 +1,8 @@
 -- What holds at each turn of the loop over `k` in `map_indexed_rgba`.
 use Rattle.std.specs.Prelude.{◌≡◌, ℕ, [], ◌<◌, length, map, slice_index, slice_index_or}
-use Rattle.pix_table.specs.Nearest.{IsNearestBy}
-use Rattle.pix_table.specs.Seen.{seen, seen_distance}
-use Rattle.pix_table.specs.SeenMatches.{AreMatchedPixels}
+use Rattle.pix_table.specs.matching.Nearest.{IsNearestBy}
+use Rattle.pix_table.specs.SeenPixels.{seen, seen_distance}
+use Rattle.pix_table.specs.matching.SeenMatches.{AreMatchedPixels}
 use Rattle.pix_table.proofs.rgba.matched.map_indexed_rgba.Given as goal
 
 -- the first k pixels are matched, and so are the pixels at the places, and there is an entry at the index

@@ -4,7 +4,7 @@ use Rattle.std.proofs.Common.{arith, ◌≡◌, ◌+◌, ◌∷◌, ◌++◌, []
 use Rattle.std.proofs.lemmas.List.{map-append, take_more_set}
 use Rattle.std.proofs.lemmas.Simd.{map-map}
 use Rattle.std.proofs.lemmas.List.Elements.{All-append, All-from_get_or}
-use Rattle.pix_table.specs.Seen.{AreSeen, seen, seen_numbers}
+use Rattle.pix_table.specs.SeenPixels.{AreSeen, seen, seen_numbers}
 use Rattle.pix_table.proofs.Writes.{copy_more}
 use Rattle.pix_table.proofs.rgba.matched.seen_entries.Goals as goal
 

@@ -1,6 +1,6 @@
 -- What holds at each turn of the loop over `i` in `seen_entries`.
 use Rattle.std.proofs.Common.{◌≡◌, All, length, map, take}
-use Rattle.pix_table.specs.Seen.{AreSeen, seen, seen_numbers}
+use Rattle.pix_table.specs.SeenPixels.{AreSeen, seen, seen_numbers}
 use Rattle.pix_table.proofs.rgba.matched.seen_entries.Given as goal
 
 -- the first i entries are there

@@ -1,6 +1,6 @@
 -- Of `above`: the differences of the lanes.
 use Rattle.std.proofs.Common.{arith, sym, ◌∙◌}
-use Rattle.pix_table.proofs.GapLanes.{above_at, above_long}
+use Rattle.pix_table.proofs.lemmas.matching.GapLanes.{above_at, above_long}
 use Rattle.pix_table.proofs.rgba.near_blocks.above.Goals as goal
 
 pub returns-clause-long : goal.returns-clause-long

@@ -1,10 +1,10 @@
 -- Of `color_ends`: that those of one block more are there after each turn, and in the end all.
 use Rattle.std.proofs.Common.{get_or, length-set, arith, sym, subst, ◌∙◌}
-use Rattle.pix_table.specs.ColorBlocks.{Lies, channels_in}
-use Rattle.pix_table.specs.Lanes.{no_block}
-use Rattle.pix_table.specs.Nearest.{numbers}
+use Rattle.pix_table.specs.threshold.ColorBlocks.{Lies, channels_in}
+use Rattle.pix_table.specs.matching.Lanes.{no_block}
+use Rattle.pix_table.specs.matching.Nearest.{numbers}
 use Rattle.pix_table.specs.declared.color.Color.{Color}
-use Rattle.pix_table.proofs.NearBlocks.{block_color, ends_more}
+use Rattle.pix_table.proofs.lemmas.matching.NearBlocks.{block_color, ends_more}
 use Rattle.pix_table.proofs.rgba.near_blocks.color_ends.Goals as goal
 
 abbrev clear : Color

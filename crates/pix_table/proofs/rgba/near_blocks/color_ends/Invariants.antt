@@ -1,8 +1,8 @@
 -- What holds at each turn of the loop over `j` in `color_ends`.
 use Rattle.std.proofs.Common.{◌≡◌, ℕ, ◌<◌, get_or, length}
-use Rattle.pix_table.specs.ColorBlocks.{Lies, channels_in}
-use Rattle.pix_table.specs.Lanes.{no_block}
-use Rattle.pix_table.specs.Nearest.{numbers}
+use Rattle.pix_table.specs.threshold.ColorBlocks.{Lies, channels_in}
+use Rattle.pix_table.specs.matching.Lanes.{no_block}
+use Rattle.pix_table.specs.matching.Nearest.{numbers}
 use Rattle.pix_table.specs.declared.color.Color.{Color}
 use Rattle.pix_table.proofs.rgba.near_blocks.color_ends.Given as goal
 

@@ -1,5 +1,5 @@
 -- Of `gap`: the squares of the lanes.
-use Rattle.pix_table.proofs.GapLanes.{gap_at, gap_long}
+use Rattle.pix_table.proofs.lemmas.matching.GapLanes.{gap_at, gap_long}
 use Rattle.pix_table.proofs.rgba.near_blocks.gap.Goals as goal
 
 pub returns-clause-long : goal.returns-clause-long

@@ -1,7 +1,7 @@
 -- Of `gaps`: that those of the channels are added.
 use Rattle.std.proofs.Common.{◌≡◌, length, get_or, ap, ◌∙◌, arith}
 use Rattle.pix_chan.specs.Number.{saturating_sum}
-use Rattle.pix_table.proofs.LaneNumbers.{lane_of, long_of}
+use Rattle.pix_table.proofs.lemmas.matching.LaneNumbers.{lane_of, long_of}
 use Rattle.pix_table.proofs.rgba.near_blocks.gaps.Goals as goal
 
 pub returns-clause-each : goal.returns-clause-each

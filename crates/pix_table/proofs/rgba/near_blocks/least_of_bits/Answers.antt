@@ -2,10 +2,10 @@
 use Rattle.std.proofs.Common.{length, arith}
 use Rattle.std.specs.Int.{w64}
 use Rattle.std.proofs.lemmas.Nat.Bits.{bit_at-trailing_zeros, bit_at-zero}
-use Rattle.pix_table.specs.NearBlocks.{far_lane}
-use Rattle.pix_table.specs.SeenLanes.{no_views}
+use Rattle.pix_table.specs.matching.NearBlocks.{far_lane}
+use Rattle.pix_table.specs.matching.SeenLanes.{no_views}
 use Rattle.pix_table.proofs.BitLemmas.{shifted_bits}
-use Rattle.pix_table.proofs.BlockKeys.{bits_clear, bits_more, lane_more}
+use Rattle.pix_table.proofs.lemmas.matching.BlockKeys.{bits_clear, bits_more, lane_more}
 use Rattle.pix_table.proofs.rgba.near_blocks.least_of_bits.Goals as goal
 
 pub loop-rest-preserved : goal.loop-rest-preserved

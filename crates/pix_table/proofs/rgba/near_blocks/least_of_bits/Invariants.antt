@@ -1,9 +1,9 @@
 -- What holds at each turn of the loop in `least_of_bits`.
 use Rattle.std.proofs.Common.{◌≡◌, ◌≤◌, ◌+◌, ◌*◌, ℕ, length}
 use Rattle.std.specs.Int.{bit_at}
-use Rattle.pix_table.specs.Lanes.{IsLaneKey}
-use Rattle.pix_table.specs.NearBlocks.{far_lane}
-use Rattle.pix_table.proofs.BlockKeys.{IsLeastOfBits}
+use Rattle.pix_table.specs.matching.Lanes.{IsLaneKey}
+use Rattle.pix_table.specs.matching.NearBlocks.{far_lane}
+use Rattle.pix_table.proofs.lemmas.matching.BlockKeys.{IsLeastOfBits}
 use Rattle.pix_table.proofs.rgba.near_blocks.least_of_bits.Given as goal
 
 -- the key is no greater than those of the first k blocks whose bit is set, and `rest` has the bits from k on

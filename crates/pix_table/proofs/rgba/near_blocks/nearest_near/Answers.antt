@@ -2,11 +2,11 @@
 use Rattle.std.proofs.Common.{◌≡◌, ◌+◌, ◌*◌, ◌/◌, ◌%◌, ◌≤◌, ℕ, length, arith, subst}
 use Rattle.std.specs.Int.{w64}
 use Rattle.std.proofs.lemmas.Nat.Bits.{bit_at_clear_other}
-use Rattle.pix_table.specs.Lanes.{IsBlockKey, key_of}
-use Rattle.pix_table.specs.NearBlocks.{far_lane}
-use Rattle.pix_table.specs.SeenLanes.{no_views}
-use Rattle.pix_table.proofs.BlockKeys.{block_lane, least_of_all, nearest_of_key}
-use Rattle.pix_table.proofs.NearBlocks.{lane_least}
+use Rattle.pix_table.specs.matching.Lanes.{IsBlockKey, key_of}
+use Rattle.pix_table.specs.matching.NearBlocks.{far_lane}
+use Rattle.pix_table.specs.matching.SeenLanes.{no_views}
+use Rattle.pix_table.proofs.lemmas.matching.BlockKeys.{block_lane, least_of_all, nearest_of_key}
+use Rattle.pix_table.proofs.lemmas.matching.NearBlocks.{lane_least}
 use Rattle.pix_table.proofs.rgba.near_blocks.nearest_near.Goals as goal
 
 pub least_of_bits-requires-clause-first : goal.least_of_bits-requires-clause-first

@@ -1,12 +1,12 @@
 -- Of `count_shares`: the counts are those of no items at first, and of one item more after each turn.
 use Rattle.std.proofs.Common.{◌≡◌, ◌+◌, length, map, replicate, get_or, arith, refl, sym, ◌∙◌, subst}
 use Rattle.std.proofs.lemmas.List.{get_or_default, length-map}
-use Rattle.pix_table.specs.Nearest.{IsNearestBy}
-use Rattle.pix_table.specs.Seen.{seen_distance, seen_numbers}
-use Rattle.pix_table.specs.SeenShares.{AreItemSharesOf}
+use Rattle.pix_table.specs.matching.Nearest.{IsNearestBy}
+use Rattle.pix_table.specs.SeenPixels.{seen_distance, seen_numbers}
+use Rattle.pix_table.specs.quantization.SeenShares.{AreItemSharesOf}
 use Rattle.pix_table.specs.declared.rgba.opaque.Share.{Share}
-use Rattle.pix_table.proofs.SeenItemGroups.{item_seen}
-use Rattle.pix_table.proofs.SeenShares.{shares_more, shares_none, shares_of_items, shares_open, shares_same}
+use Rattle.pix_table.proofs.lemmas.quantization.SeenItemGroups.{item_seen}
+use Rattle.pix_table.proofs.lemmas.quantization.SeenShares.{shares_more, shares_none, shares_of_items, shares_open, shares_same}
 use Rattle.pix_table.proofs.rgba.opaque.count_shares.Goals as goal
 use Rattle.pix_table.proofs.rgba.opaque.count_shares.Goals.{then-count-gt0, else-count-gt0}
 

@@ -1,7 +1,7 @@
 -- What holds at each turn of the loop over `k` in `count_shares`.
 use Rattle.std.proofs.Common.{◌<◌, length, map}
-use Rattle.pix_table.specs.Seen.{seen_numbers}
-use Rattle.pix_table.specs.SeenShares.{AreItemSharesOf}
+use Rattle.pix_table.specs.SeenPixels.{seen_numbers}
+use Rattle.pix_table.specs.quantization.SeenShares.{AreItemSharesOf}
 use Rattle.pix_table.proofs.rgba.opaque.count_shares.Given as goal
 
 -- the counts are those of the first k items, and there is an entry at the index

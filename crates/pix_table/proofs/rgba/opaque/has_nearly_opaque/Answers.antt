@@ -3,13 +3,13 @@ use Rattle.std.proofs.Common.{◌≡◌, [], map, get_or, arith, ap, sym, ◌∙
 use Rattle.std.proofs.lemmas.Bool.{cases_lt}
 use Rattle.std.proofs.lemmas.List.{get_or-map, length-map}
 use Rattle.std.proofs.lemmas.List.Elements.{All-from_get_or}
-use Rattle.pix_table.specs.Seen.{seen_numbers}
-use Rattle.pix_table.specs.SeenTables.{opaque_settled}
-use Rattle.pix_table.specs.declared.rgba.color.Seen.{Seen}
-use Rattle.pix_table.proofs.SeenRounds.{seen_at}
+use Rattle.pix_table.specs.SeenPixels.{seen_numbers}
+use Rattle.pix_table.specs.quantization.SeenTables.{opaque_settled}
+use Rattle.pix_table.specs.declared.rgba.color.SeenColor.{SeenColor}
+use Rattle.pix_table.proofs.lemmas.quantization.SeenRounds.{seen_at}
 use Rattle.pix_table.proofs.rgba.opaque.has_nearly_opaque.Goals as goal
 
-abbrev black : Seen
+abbrev black : SeenColor
 black = record { red = 0; green = 0; blue = 0; alpha = 0 }
 
 pub is_nearly_opaque-requires : goal.is_nearly_opaque-requires

@@ -1,7 +1,7 @@
 -- What holds at each turn of the loop over `i` in `has_nearly_opaque`.
 use Rattle.std.proofs.Common.{◌≡◌, ℕ, ◌<◌, List, [], get_or, map}
-use Rattle.pix_table.specs.Seen.{seen_numbers}
-use Rattle.pix_table.specs.SeenTables.{opaque_settled}
+use Rattle.pix_table.specs.SeenPixels.{seen_numbers}
+use Rattle.pix_table.specs.quantization.SeenTables.{opaque_settled}
 use Rattle.pix_table.proofs.rgba.opaque.has_nearly_opaque.Given as goal
 
 -- none of the first i entries changes

@@ -1,7 +1,7 @@
 -- Of `is_nearly_opaque`: that any other entry stays.
 use Rattle.std.proofs.Common.{◌≡◌, arith, ltb-false}
-use Rattle.pix_table.specs.Seen.{seen_numbers}
-use Rattle.pix_table.proofs.SeenShares.{stays_low, stays_opaque}
+use Rattle.pix_table.specs.SeenPixels.{seen_numbers}
+use Rattle.pix_table.proofs.lemmas.quantization.SeenShares.{stays_low, stays_opaque}
 use Rattle.pix_table.proofs.rgba.opaque.is_nearly_opaque.Goals as goal
 
 pub returns-then-entry-ge-NEARLY : goal.returns-then-entry-ge-NEARLY

@@ -1,15 +1,15 @@
 -- Of `opaque_round`: that the counts make it.
 use Rattle.std.proofs.Common.{map, arith}
 use Rattle.std.proofs.lemmas.List.{length-map}
-use Rattle.pix_table.specs.Seen.{seen_numbers}
-use Rattle.pix_table.specs.SeenShares.{AreShares}
-use Rattle.pix_table.specs.SeenTables.{opaque_settled}
-use Rattle.pix_table.specs.declared.rgba.color.Seen.{Seen}
-use Rattle.pix_table.proofs.SeenRounds.{none_settled, one_settles, round_made, seen_at}
+use Rattle.pix_table.specs.SeenPixels.{seen_numbers}
+use Rattle.pix_table.specs.quantization.SeenShares.{AreShares}
+use Rattle.pix_table.specs.quantization.SeenTables.{opaque_settled}
+use Rattle.pix_table.specs.declared.rgba.color.SeenColor.{SeenColor}
+use Rattle.pix_table.proofs.lemmas.quantization.SeenRounds.{none_settled, one_settles, round_made, seen_at}
 use Rattle.pix_table.proofs.rgba.opaque.opaque_round.Invariants.{nothing}
 use Rattle.pix_table.proofs.rgba.opaque.opaque_round.Goals as goal
 
-abbrev black : Seen
+abbrev black : SeenColor
 black = record { red = 0; green = 0; blue = 0; alpha = 0 }
 
 pub loop-i-init : goal.loop-i-init

@@ -1,10 +1,10 @@
 -- What holds at each turn of the loop over `i` in `opaque_round`.
 use Rattle.std.proofs.Common.{map}
-use Rattle.pix_table.specs.Seen.{seen_numbers}
-use Rattle.pix_table.specs.SeenShares.{AreShares}
-use Rattle.pix_table.specs.SeenTables.{opaque_settled}
+use Rattle.pix_table.specs.SeenPixels.{seen_numbers}
+use Rattle.pix_table.specs.quantization.SeenShares.{AreShares}
+use Rattle.pix_table.specs.quantization.SeenTables.{opaque_settled}
 use Rattle.pix_table.specs.declared.rgba.opaque.Share.{Share}
-use Rattle.pix_table.proofs.SeenRounds.{AreSettled}
+use Rattle.pix_table.proofs.lemmas.quantization.SeenRounds.{AreSettled}
 use Rattle.pix_table.proofs.rgba.opaque.opaque_round.Given as goal
 
 abbrev pub nothing : Share

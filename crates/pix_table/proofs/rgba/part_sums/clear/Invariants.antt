@@ -1,6 +1,6 @@
 -- What holds at each turn of the loop over `i` in `clear`.
 use Rattle.std.proofs.Common.{◌≡◌, ℕ, ◌<◌, get_or, length}
-use Rattle.pix_table.specs.PartSums.{AreNone}
+use Rattle.pix_table.specs.quantization.PartSums.{AreNone}
 use Rattle.pix_table.proofs.rgba.part_sums.clear.Given as goal
 
 -- the first i sums are those of no colors

@@ -1,13 +1,13 @@
 -- Of `best_in`: that the sums are few, that the invariant of its loop over `value` holds, and its clause at each return.
 use Rattle.std.proofs.Common.{◌≡◌, ◌+◌, ◌∙◌, ℕ, List, arith, sym, map}
-use Rattle.pix_table.specs.BestPlaces.{is_below}
-use Rattle.pix_table.specs.SeenCut.{seen_weight}
-use Rattle.pix_table.specs.SeenSums.{AreSeenSums, IsSummed, seen_gain_at}
-use Rattle.pix_table.proofs.PlacesBy.{done_by}
-use Rattle.pix_table.proofs.PlaceSteps.{begun_by, past_all, bytes_past}
-use Rattle.pix_table.proofs.SeenSumLemmas.{all_bytes, are_few, are_part, below_more, below_none, can_cut, same_below, some_others, value_sums, whole_count}
-use Rattle.pix_table.proofs.SumLemmas.{length_sum, sum_le, sum_next}
-use Rattle.pix_table.proofs.SeenWeights.{gain_same, passed_by, whole_weight}
+use Rattle.pix_table.specs.quantization.BestPlaces.{is_below}
+use Rattle.pix_table.specs.quantization.SeenCut.{seen_weight}
+use Rattle.pix_table.specs.quantization.SeenSums.{AreSeenSums, IsSummed, seen_gain_at}
+use Rattle.pix_table.proofs.lemmas.quantization.PlacesBy.{done_by}
+use Rattle.pix_table.proofs.lemmas.quantization.PlaceSteps.{begun_by, past_all, bytes_past}
+use Rattle.pix_table.proofs.lemmas.quantization.SeenSumLemmas.{all_bytes, are_few, are_part, below_more, below_none, can_cut, same_below, some_others, value_sums, whole_count}
+use Rattle.pix_table.proofs.lemmas.quantization.SumLemmas.{length_sum, sum_le, sum_next}
+use Rattle.pix_table.proofs.lemmas.quantization.SeenWeights.{gain_same, passed_by, whole_weight}
 use Rattle.pix_table.proofs.rgba.place.best_in.Goals as goal
 
 pub weight-whole-requires-clause-some : goal.weight-whole-requires-clause-some

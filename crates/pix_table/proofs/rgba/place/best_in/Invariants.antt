@@ -1,7 +1,7 @@
 -- What holds at each turn of the loop over `value` in `best_in`.
 use Rattle.std.proofs.Common.{◌+◌, ℕ, List, map}
-use Rattle.pix_table.specs.BestPlaces.{IsBestUpToBy, is_below}
-use Rattle.pix_table.specs.SeenSums.{AreSeenSums, IsSummed, seen_gain_at}
+use Rattle.pix_table.specs.quantization.BestPlaces.{IsBestUpToBy, is_below}
+use Rattle.pix_table.specs.quantization.SeenSums.{AreSeenSums, IsSummed, seen_gain_at}
 use Rattle.pix_table.proofs.rgba.place.best_in.Given as goal
 
 -- the sums are those of the colors below the value, and the best is that of the places up to the value

@@ -1,12 +1,12 @@
 -- Of `best_seen_place`: that there is no place before the first, and its clause at each return.
 use Rattle.std.proofs.Common.{arith, map}
 use Rattle.std.proofs.lemmas.List.{length-map}
-use Rattle.pix_table.specs.BestPlaces.{IsBestUpToBy}
-use Rattle.pix_table.specs.Seen.{seen_numbers}
-use Rattle.pix_table.specs.SeenCut.{seen_weight}
-use Rattle.pix_table.specs.SeenSums.{seen_gain_at}
-use Rattle.pix_table.proofs.PlaceSteps.{best_found, none_first, one_alone}
-use Rattle.pix_table.proofs.SeenWeights.{cut_gain}
+use Rattle.pix_table.specs.quantization.BestPlaces.{IsBestUpToBy}
+use Rattle.pix_table.specs.SeenPixels.{seen_numbers}
+use Rattle.pix_table.specs.quantization.SeenCut.{seen_weight}
+use Rattle.pix_table.specs.quantization.SeenSums.{seen_gain_at}
+use Rattle.pix_table.proofs.lemmas.quantization.PlaceSteps.{best_found, none_first, one_alone}
+use Rattle.pix_table.proofs.lemmas.quantization.SeenWeights.{cut_gain}
 use Rattle.pix_table.proofs.rgba.place.best_seen_place.Goals as goal
 
 pub returns-then-colors-lt2 : goal.returns-then-colors-lt2

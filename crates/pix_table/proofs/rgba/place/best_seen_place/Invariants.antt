@@ -1,8 +1,8 @@
 -- What holds at each turn of the loop over `k` in `best_seen_place`.
 use Rattle.std.proofs.Common.{map}
-use Rattle.pix_table.specs.BestPlaces.{IsBestUpToBy}
-use Rattle.pix_table.specs.Seen.{seen_numbers}
-use Rattle.pix_table.specs.SeenSums.{seen_gain_at}
+use Rattle.pix_table.specs.quantization.BestPlaces.{IsBestUpToBy}
+use Rattle.pix_table.specs.SeenPixels.{seen_numbers}
+use Rattle.pix_table.specs.quantization.SeenSums.{seen_gain_at}
 use Rattle.pix_table.proofs.rgba.place.best_seen_place.Given as goal
 
 -- the best is that of the channels before k

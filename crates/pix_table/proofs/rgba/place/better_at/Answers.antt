@@ -1,9 +1,9 @@
 -- Of `better_at`: its clause at each return.
 use Rattle.std.proofs.Common.{arith, subst}
-use Rattle.pix_table.specs.BestPlaces.{IsBestBeforeBy, IsBestUpToBy}
-use Rattle.pix_table.specs.SeenSums.{seen_gain_at}
-use Rattle.pix_table.proofs.PlacesBy.{kept_by}
-use Rattle.pix_table.proofs.SeenWeights.{same_sums}
+use Rattle.pix_table.specs.quantization.BestPlaces.{IsBestBeforeBy, IsBestUpToBy}
+use Rattle.pix_table.specs.quantization.SeenSums.{seen_gain_at}
+use Rattle.pix_table.proofs.lemmas.quantization.PlacesBy.{kept_by}
+use Rattle.pix_table.proofs.lemmas.quantization.SeenWeights.{same_sums}
 use Rattle.pix_table.proofs.rgba.place.better_at.Goals.{in-Some+else-both_weigh_at_most, in_default}
 use Rattle.pix_table.proofs.rgba.place.better_at.Goals as goal
 

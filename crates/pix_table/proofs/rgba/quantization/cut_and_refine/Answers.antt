@@ -3,10 +3,10 @@ use Rattle.std.proofs.Common.{length, map, take, arith, subst}
 use Rattle.std.specs.Simd.{first_chunks}
 use Rattle.std.proofs.lemmas.List.{length-map}
 use Rattle.std.proofs.lemmas.List.Sorted.{All-permutation}
-use Rattle.pix_table.specs.Items.{pair_items, spread}
-use Rattle.pix_table.specs.Seen.{AreSeen, seen_numbers}
-use Rattle.pix_table.specs.SeenTables.{IsSeenTable}
-use Rattle.pix_table.proofs.PairItems.{some_pairs, times_in_all}
+use Rattle.pix_table.specs.quantization.Items.{pair_items, spread}
+use Rattle.pix_table.specs.SeenPixels.{AreSeen, seen_numbers}
+use Rattle.pix_table.specs.quantization.SeenTables.{IsSeenTable}
+use Rattle.pix_table.proofs.lemmas.quantization.PairItems.{some_pairs, times_in_all}
 use Rattle.pix_table.proofs.rgba.quantization.cut_and_refine.Goals as goal
 
 pub refined_of_pairs-requires-clause-some : goal.refined_of_pairs-requires-clause-some

@@ -3,9 +3,9 @@ use Rattle.std.proofs.Common.{◌≡◌, ◌+◌, ◌∷◌, ◌++◌, [], false
 use Rattle.std.specs.List.{list_any}
 use Rattle.std.proofs.lemmas.List.{length-map, map-append}
 use Rattle.std.proofs.lemmas.List.Folds.{list_any_at}
-use Rattle.pix_table.specs.Seen.{rgba_numbers, seen, seen_numbers}
-use Rattle.pix_table.specs.SeenTables.{four_of, same_seen}
-use Rattle.pix_table.proofs.SeenMade.{known_by, pixel_known, pixel_more, pixel_new, pushed}
+use Rattle.pix_table.specs.SeenPixels.{rgba_numbers, seen, seen_numbers}
+use Rattle.pix_table.specs.quantization.SeenTables.{four_of, same_seen}
+use Rattle.pix_table.proofs.lemmas.quantization.SeenMade.{known_by, pixel_known, pixel_more, pixel_new, pushed}
 use Rattle.pix_table.proofs.rgba.quantization.distinct.Goals as goal
 use Rattle.pix_table.proofs.rgba.quantization.distinct.Goals.{in-Some, in-None+else-count-entries}
 

@@ -1,7 +1,7 @@
 -- What holds at each turn of the loop over `i` in `distinct`.
 use Rattle.std.proofs.Common.{◌≡◌, ◌≤◌, length, map, take}
-use Rattle.pix_table.specs.Seen.{rgba_numbers, seen, seen_numbers}
-use Rattle.pix_table.specs.SeenTables.{distinct_pixels}
+use Rattle.pix_table.specs.SeenPixels.{rgba_numbers, seen, seen_numbers}
+use Rattle.pix_table.specs.quantization.SeenTables.{distinct_pixels}
 use Rattle.pix_table.proofs.rgba.quantization.distinct.Given as goal
 
 -- the distinct ones of the first i pixels are written, and what they are seen as is in the table

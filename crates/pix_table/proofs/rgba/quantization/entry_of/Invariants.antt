@@ -1,8 +1,8 @@
 -- What holds at each turn of the loop over `i` in `entry_of`.
 use Rattle.std.proofs.Common.{◌≡◌, map, take, false}
 use Rattle.std.specs.List.{list_any}
-use Rattle.pix_table.specs.Seen.{seen_numbers}
-use Rattle.pix_table.specs.SeenTables.{same_seen}
+use Rattle.pix_table.specs.SeenPixels.{seen_numbers}
+use Rattle.pix_table.specs.quantization.SeenTables.{same_seen}
 use Rattle.pix_table.proofs.rgba.quantization.entry_of.Given as goal
 
 -- the color is not among the first i entries

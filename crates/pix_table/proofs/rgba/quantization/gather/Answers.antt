@@ -2,9 +2,9 @@
 use Rattle.std.proofs.Common.{◌∷◌, ◌++◌, [], ◌∙◌, All, ap, ap₂, arith, map, subst, sym, take}
 use Rattle.std.proofs.lemmas.List.{map-append}
 use Rattle.std.proofs.lemmas.List.Elements.{All-push}
-use Rattle.pix_table.specs.Seen.{AreSeen, seen, seen_numbers}
-use Rattle.pix_table.proofs.BoxSpans.{map_more}
-use Rattle.pix_table.proofs.SeenMade.{pushed}
+use Rattle.pix_table.specs.SeenPixels.{AreSeen, seen, seen_numbers}
+use Rattle.pix_table.proofs.lemmas.quantization.BoxSpans.{map_more}
+use Rattle.pix_table.proofs.lemmas.quantization.SeenMade.{pushed}
 use Rattle.pix_table.proofs.rgba.quantization.gather.Goals as goal
 
 pub loop-i-preserved : goal.loop-i-preserved

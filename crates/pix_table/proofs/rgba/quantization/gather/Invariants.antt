@@ -1,6 +1,6 @@
 -- What holds at each turn of the loop over `i` in `gather`.
 use Rattle.std.proofs.Common.{◌≡◌, map, take, All}
-use Rattle.pix_table.specs.Seen.{AreSeen, seen, seen_numbers}
+use Rattle.pix_table.specs.SeenPixels.{AreSeen, seen, seen_numbers}
 use Rattle.pix_table.proofs.rgba.quantization.gather.Given as goal
 
 -- those of the first i pixels are written

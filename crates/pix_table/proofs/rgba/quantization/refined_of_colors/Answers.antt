@@ -2,10 +2,10 @@
 use Rattle.std.proofs.Common.{◌++◌, ◌<◌, All, IsPermutation, map, take, drop, length, arith, ap, ◌∙◌, refl, sym, subst, take_all, length-take}
 use Rattle.std.proofs.lemmas.List.{take-append-le}
 use Rattle.std.proofs.lemmas.List.Sorted.{All-permutation, IsPermutation-refl, IsPermutation-sym}
-use Rattle.pix_table.specs.Seen.{AreSeen, seen_numbers}
-use Rattle.pix_table.proofs.SeenItems.{fit_items}
-use Rattle.pix_table.proofs.SeenMade.{seen_moved}
-use Rattle.pix_table.proofs.Singles.{singles_are, singles_count, singles_moved, spread_singles}
+use Rattle.pix_table.specs.SeenPixels.{AreSeen, seen_numbers}
+use Rattle.pix_table.proofs.lemmas.quantization.SeenItems.{fit_items}
+use Rattle.pix_table.proofs.lemmas.quantization.SeenMade.{seen_moved}
+use Rattle.pix_table.proofs.lemmas.quantization.Singles.{singles_are, singles_count, singles_moved, spread_singles}
 use Rattle.pix_table.proofs.rgba.quantization.refined_of_colors.Goals as goal
 
 pub cut_seen_table-count-requires-clause-fit : goal.cut_seen_table-count-requires-clause-fit

@@ -3,13 +3,13 @@ use Rattle.std.proofs.Common.{◌≡◌, ◌++◌, ◌<◌, All, IsPermutation, 
 use Rattle.std.specs.Simd.{first_chunks}
 use Rattle.std.proofs.lemmas.List.{take-append-le}
 use Rattle.std.proofs.lemmas.List.Sorted.{All-permutation, IsPermutation-refl, IsPermutation-trans, sum_by-IsPermutation}
-use Rattle.pix_table.specs.Items.{IsItem, pair_items, spread, times_of}
-use Rattle.pix_table.specs.Seen.{AreSeen, seen_numbers}
-use Rattle.pix_table.specs.SeenItems.{IsSeenItem}
-use Rattle.pix_table.proofs.ItemLists.{spread-moved}
-use Rattle.pix_table.proofs.PairItems.{pairs_taken}
-use Rattle.pix_table.proofs.SeenItems.{fit_items}
-use Rattle.pix_table.proofs.SeenMade.{seen_moved}
+use Rattle.pix_table.specs.quantization.Items.{IsItem, pair_items, spread, times_of}
+use Rattle.pix_table.specs.SeenPixels.{AreSeen, seen_numbers}
+use Rattle.pix_table.specs.quantization.SeenItems.{IsSeenItem}
+use Rattle.pix_table.proofs.lemmas.quantization.ItemLists.{spread-moved}
+use Rattle.pix_table.proofs.lemmas.quantization.PairItems.{pairs_taken}
+use Rattle.pix_table.proofs.lemmas.quantization.SeenItems.{fit_items}
+use Rattle.pix_table.proofs.lemmas.quantization.SeenMade.{seen_moved}
 use Rattle.pix_table.proofs.rgba.quantization.refined_of_pairs.Goals as goal
 
 pub cut_seen_table-count-requires-clause-fit : goal.cut_seen_table-count-requires-clause-fit

@@ -1,13 +1,13 @@
 -- Of `write_straight`: that each color of the table is a seen one, and that the entries are seen as
 -- the table.
 use Rattle.std.proofs.Common.{◌≡◌, ◌∙◌, ap, arith, length, map, sym, take, take_all}
-use Rattle.pix_table.specs.Seen.{rgba_numbers, seen, seen_numbers, straight}
-use Rattle.pix_table.specs.declared.rgba.color.Seen.{Seen}
-use Rattle.pix_table.proofs.SeenMade.{seen_again}
-use Rattle.pix_table.proofs.SeenRounds.{seen_at}
+use Rattle.pix_table.specs.SeenPixels.{rgba_numbers, seen, seen_numbers, straight}
+use Rattle.pix_table.specs.declared.rgba.color.SeenColor.{SeenColor}
+use Rattle.pix_table.proofs.lemmas.quantization.SeenMade.{seen_again}
+use Rattle.pix_table.proofs.lemmas.quantization.SeenRounds.{seen_at}
 use Rattle.pix_table.proofs.rgba.quantization.write_straight.Goals as goal
 
-abbrev black : Seen
+abbrev black : SeenColor
 black = record { red = 0; green = 0; blue = 0; alpha = 0 }
 
 pub straight-requires : goal.straight-requires

@@ -1,6 +1,6 @@
 -- What holds at each turn of the loop over `i` in `write_straight`.
 use Rattle.std.proofs.Common.{◌≡◌, length, map, take}
-use Rattle.pix_table.specs.Seen.{rgba_numbers, seen_numbers, straight}
+use Rattle.pix_table.specs.SeenPixels.{rgba_numbers, seen_numbers, straight}
 use Rattle.pix_table.proofs.rgba.quantization.write_straight.Given as goal
 
 -- the first i entries are written

@@ -1,11 +1,12 @@
 -- Of `refine_seen`: that what is made of the items is made of the colors.
 use Rattle.std.proofs.Common.{◌≤◌, map, arith, refl, subst, sym}
 use Rattle.std.proofs.lemmas.List.{length-map}
-use Rattle.pix_table.specs.Refine.{AreRoundsBy, squared_error_by}
-use Rattle.pix_table.specs.Seen.{seen_distance, seen_numbers}
-use Rattle.pix_table.specs.SeenTables.{opaque_settled, seen_settled}
-use Rattle.pix_table.proofs.SeenRounds.{round_stays}
-use Rattle.pix_table.proofs.SumLemmas.{length_sum}
+use Rattle.pix_table.specs.quantization.Refine.{AreRoundsBy}
+use Rattle.pix_table.specs.quantization.SquaredErrors.{squared_error_by}
+use Rattle.pix_table.specs.SeenPixels.{seen_distance, seen_numbers}
+use Rattle.pix_table.specs.quantization.SeenTables.{opaque_settled, seen_settled}
+use Rattle.pix_table.proofs.lemmas.quantization.SeenRounds.{round_stays}
+use Rattle.pix_table.proofs.lemmas.quantization.SumLemmas.{length_sum}
 use Rattle.pix_table.proofs.rgba.refine.refine_seen.Goals as goal
 
 pub refine_to_opaque-requires-clause-count : goal.refine_to_opaque-requires-clause-count

@@ -1,9 +1,9 @@
 -- Of `refine_seen_by`: that its rounds are as many as were asked for.
 use Rattle.std.proofs.Common.{◌≡◌, ◌+◌, ◌-◌, suc, drop, length, map, refl, rules, arith, sym, subst, length-append, length-drop, length-take}
-use Rattle.pix_table.specs.Refine.{AreRoundsBy, IsRoundBy}
-use Rattle.pix_table.specs.Seen.{seen_distance, seen_numbers}
-use Rattle.pix_table.specs.SeenTables.{seen_settled}
-use Rattle.pix_table.proofs.TableRounds.{none_move}
+use Rattle.pix_table.specs.quantization.Refine.{AreRoundsBy, IsRoundBy}
+use Rattle.pix_table.specs.SeenPixels.{seen_distance, seen_numbers}
+use Rattle.pix_table.specs.quantization.SeenTables.{seen_settled}
+use Rattle.pix_table.proofs.lemmas.quantization.TableRounds.{none_move}
 use Rattle.pix_table.proofs.rgba.refine.refine_seen_by.Goals as goal
 
 pub returns-then-not-is_moved-clause-rounds : goal.returns-then-not-is_moved-clause-rounds

@@ -1,9 +1,9 @@
 -- What holds at each turn of the loop in `refine_seen_by`.
 use Rattle.std.proofs.Common.{◌≡◌, ℕ, ◌-◌, List, All, length, map}
-use Rattle.pix_table.specs.Items.{AreItemsOf}
-use Rattle.pix_table.specs.Refine.{AreRoundsBy}
-use Rattle.pix_table.specs.Seen.{AreSeen, seen_distance, seen_numbers}
-use Rattle.pix_table.specs.SeenTables.{seen_settled}
+use Rattle.pix_table.specs.quantization.Items.{AreItemsOf}
+use Rattle.pix_table.specs.quantization.Refine.{AreRoundsBy}
+use Rattle.pix_table.specs.SeenPixels.{AreSeen, seen_distance, seen_numbers}
+use Rattle.pix_table.specs.quantization.SeenTables.{seen_settled}
 use Rattle.pix_table.proofs.rgba.refine.refine_seen_by.Given as goal
 
 -- with the rounds that are left they are all rounds

@@ -2,11 +2,11 @@
 use Rattle.std.proofs.Common.{◌≡◌, ◌+◌, ◌<◌, length, map, sum_by, arith, sym, subst}
 use Rattle.std.specs.List.{flat_map}
 use Rattle.std.proofs.lemmas.List.Sorted.{All-permutation, IsPermutation-refl, IsPermutation-sym}
-use Rattle.pix_table.specs.Items.{AreItemsOf, item_sum, pair_items, spread}
-use Rattle.pix_table.specs.Seen.{AreSeen, seen_numbers}
-use Rattle.pix_table.proofs.ItemLists.{length-spread}
-use Rattle.pix_table.proofs.PairItems.{items_of_pairs}
-use Rattle.pix_table.proofs.SumLemmas.{length_sum}
+use Rattle.pix_table.specs.quantization.Items.{AreItemsOf, item_sum, pair_items, spread}
+use Rattle.pix_table.specs.SeenPixels.{AreSeen, seen_numbers}
+use Rattle.pix_table.proofs.lemmas.quantization.ItemLists.{length-spread}
+use Rattle.pix_table.proofs.lemmas.quantization.PairItems.{items_of_pairs}
+use Rattle.pix_table.proofs.lemmas.quantization.SumLemmas.{length_sum}
 use Rattle.pix_table.proofs.rgba.refine.refine_seen_items.Goals as goal
 
 pub refine_to_opaque-requires-clause-count : goal.refine_to_opaque-requires-clause-count

@@ -1,9 +1,9 @@
 -- Of `refine_to_opaque`: that no round makes the squared error greater, and that the last step is of the same colors.
 use Rattle.std.proofs.Common.{map}
-use Rattle.pix_table.specs.Seen.{seen_distance, seen_numbers}
-use Rattle.pix_table.specs.SeenTables.{seen_settled}
-use Rattle.pix_table.proofs.RefinedTables.{rounds_fall}
-use Rattle.pix_table.proofs.SeenErrors.{settled_falls}
+use Rattle.pix_table.specs.SeenPixels.{seen_distance, seen_numbers}
+use Rattle.pix_table.specs.quantization.SeenTables.{seen_settled}
+use Rattle.pix_table.proofs.lemmas.quantization.RefinedTables.{rounds_fall}
+use Rattle.pix_table.proofs.lemmas.quantization.SeenErrors.{settled_falls}
 use Rattle.pix_table.proofs.rgba.refine.refine_to_opaque.Goals as goal
 
 pub returns-clause-refined : goal.returns-clause-refined

@@ -1,16 +1,16 @@
 -- Of `seen_round`: that the sums make it.
 use Rattle.std.proofs.Common.{map, get_or, refl, arith, sym, ◌∙◌}
 use Rattle.std.proofs.lemmas.List.{length-map}
-use Rattle.pix_table.specs.Seen.{seen_numbers}
-use Rattle.pix_table.specs.SeenGroups.{AreGroupSums}
-use Rattle.pix_table.specs.SeenTables.{seen_settled}
-use Rattle.pix_table.specs.declared.rgba.color.Seen.{Seen}
-use Rattle.pix_table.proofs.Rounds.{same_more_by}
-use Rattle.pix_table.proofs.SeenRounds.{group_of, none_settled, one_settles, round_made, same_numbers, seen_at}
+use Rattle.pix_table.specs.SeenPixels.{seen_numbers}
+use Rattle.pix_table.specs.quantization.SeenGroups.{AreGroupSums}
+use Rattle.pix_table.specs.quantization.SeenTables.{seen_settled}
+use Rattle.pix_table.specs.declared.rgba.color.SeenColor.{SeenColor}
+use Rattle.pix_table.proofs.lemmas.quantization.Rounds.{same_more_by}
+use Rattle.pix_table.proofs.lemmas.quantization.SeenRounds.{group_of, none_settled, one_settles, round_made, same_numbers, seen_at}
 use Rattle.pix_table.proofs.rgba.refine.seen_round.Invariants.{nothing}
 use Rattle.pix_table.proofs.rgba.refine.seen_round.Goals as goal
 
-abbrev black : Seen
+abbrev black : SeenColor
 black = record { red = 0; green = 0; blue = 0; alpha = 0 }
 
 pub loop-i-init : goal.loop-i-init

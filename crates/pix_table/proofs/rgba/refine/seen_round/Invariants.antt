@@ -1,10 +1,10 @@
 -- What holds at each turn of the loop over `i` in `seen_round`.
 use Rattle.std.proofs.Common.{◌≡◌, false, map}
-use Rattle.pix_table.specs.Seen.{seen_numbers}
-use Rattle.pix_table.specs.SeenGroups.{AreGroupSums}
-use Rattle.pix_table.specs.SeenTables.{seen_settled}
+use Rattle.pix_table.specs.SeenPixels.{seen_numbers}
+use Rattle.pix_table.specs.quantization.SeenGroups.{AreGroupSums}
+use Rattle.pix_table.specs.quantization.SeenTables.{seen_settled}
 use Rattle.pix_table.specs.declared.rgba.sums.SeenSums.{SeenSums}
-use Rattle.pix_table.proofs.SeenRounds.{AreSettled}
+use Rattle.pix_table.proofs.lemmas.quantization.SeenRounds.{AreSettled}
 use Rattle.pix_table.proofs.rgba.refine.seen_round.Given as goal
 
 abbrev pub nothing : SeenSums

@@ -1,11 +1,11 @@
 -- Of `sum_groups`: the sums are those of no items at first, and of one item more after each turn.
 use Rattle.std.proofs.Common.{◌≡◌, ◌+◌, length, map, replicate, get_or, arith, sym, ap, ◌∙◌, subst}
 use Rattle.std.proofs.lemmas.List.{get_or_default, length-map}
-use Rattle.pix_table.specs.Nearest.{IsNearestBy}
-use Rattle.pix_table.specs.Seen.{seen_distance, seen_numbers}
-use Rattle.pix_table.specs.SeenGroups.{AreSeenItemGroups}
+use Rattle.pix_table.specs.matching.Nearest.{IsNearestBy}
+use Rattle.pix_table.specs.SeenPixels.{seen_distance, seen_numbers}
+use Rattle.pix_table.specs.quantization.SeenGroups.{AreSeenItemGroups}
 use Rattle.pix_table.specs.declared.rgba.sums.SeenSums.{SeenSums}
-use Rattle.pix_table.proofs.SeenItemGroups.{groups_of_items, grouped_more, grouped_none, grouped_same, item_seen, sums_open, times_few}
+use Rattle.pix_table.proofs.lemmas.quantization.SeenItemGroups.{groups_of_items, grouped_more, grouped_none, grouped_same, item_seen, sums_open, times_few}
 use Rattle.pix_table.proofs.rgba.refine.sum_groups.Goals as goal
 use Rattle.pix_table.proofs.rgba.refine.sum_groups.Goals.{then-count-gt0, else-count-gt0}
 

@@ -1,7 +1,7 @@
 -- What holds at each turn of the loop over `k` in `sum_groups`.
 use Rattle.std.proofs.Common.{◌<◌, length, map}
-use Rattle.pix_table.specs.Seen.{seen_numbers}
-use Rattle.pix_table.specs.SeenGroups.{AreSeenItemGroups}
+use Rattle.pix_table.specs.SeenPixels.{seen_numbers}
+use Rattle.pix_table.specs.quantization.SeenGroups.{AreSeenItemGroups}
 use Rattle.pix_table.proofs.rgba.refine.sum_groups.Given as goal
 
 -- the sums are those of the first k items, and there is an entry at the index

@@ -1,15 +1,15 @@
 -- Of `sum_values_in`: that the sums are those of no colors at first, and of one color more after each turn.
 use Rattle.std.proofs.Common.{◌≡◌, ◌+◌, ◌<◌, ◌∷◌, ◌++◌, [], map, take, get_or, arith, ◌∙◌}
 use Rattle.std.proofs.lemmas.List.{get_or_default}
-use Rattle.pix_table.specs.BestPlaces.{is_at}
-use Rattle.pix_table.specs.Seen.{seen_numbers}
-use Rattle.pix_table.specs.declared.rgba.color.Seen.{Seen}
+use Rattle.pix_table.specs.quantization.BestPlaces.{is_at}
+use Rattle.pix_table.specs.SeenPixels.{seen_numbers}
+use Rattle.pix_table.specs.declared.rgba.color.SeenColor.{SeenColor}
 use Rattle.pix_table.specs.declared.rgba.sums.SeenSums.{SeenSums}
-use Rattle.pix_table.proofs.BoxSpans.{map_more}
-use Rattle.pix_table.proofs.SeenSumLemmas.{are_few, first_seen, values_more, values_none}
+use Rattle.pix_table.proofs.lemmas.quantization.BoxSpans.{map_more}
+use Rattle.pix_table.proofs.lemmas.quantization.SeenSumLemmas.{are_few, first_seen, values_more, values_none}
 use Rattle.pix_table.proofs.rgba.sums.sum_values_in.Goals as goal
 
-abbrev clear : Seen
+abbrev clear : SeenColor
 clear = record { red = 0; green = 0; blue = 0; alpha = 0 }
 
 abbrev nothing : SeenSums
@@ -26,7 +26,7 @@ with-requires-clause-few c =
 pub loop-i-preserved : goal.loop-i-preserved
 loop-i-preserved c =
     let xs = c.args.colors.now in
-    let p : Seen = get_or xs c.loop-i.i clear in
+    let p : SeenColor = get_or xs c.loop-i.i clear in
     let read : p ≡ get_or xs c.loop-i.i p = get_or_default xs c.loop-i.i clear p c.loop-i-test.true in
     let old : SeenSums = get_or c.loop-i.parts c.from-value.result nothing in
     let small : c.from-value.result < 256 = omega arith in

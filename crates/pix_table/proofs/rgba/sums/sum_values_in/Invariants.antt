@@ -1,7 +1,7 @@
 -- What holds at each turn of the loop over `i` in `sum_values_in`.
 use Rattle.std.proofs.Common.{map, take}
-use Rattle.pix_table.specs.Seen.{seen_numbers}
-use Rattle.pix_table.specs.SeenSums.{AreSeenByValue}
+use Rattle.pix_table.specs.SeenPixels.{seen_numbers}
+use Rattle.pix_table.specs.quantization.SeenSums.{AreSeenByValue}
 use Rattle.pix_table.proofs.rgba.sums.sum_values_in.Given as goal
 
 -- they are the sums of the first i colors

@@ -2,9 +2,9 @@
 use Rattle.std.proofs.Common.{arith, ◌≡◌, ◌-◌, ℕ, List, [], ap, sym, ◌∙◌, subst, map, get_or, length, length-set, min}
 use Rattle.std.proofs.lemmas.List.{get_or-map, length-map}
 use Rattle.std.proofs.lemmas.List.Elements.{All-get_or}
-use Rattle.pix_table.specs.Nearest.{numbers}
-use Rattle.pix_table.specs.Seen.{AreSeen, over_white, seen_numbers}
-use Rattle.pix_table.specs.SeenLanes.{over_black}
+use Rattle.pix_table.specs.matching.Nearest.{numbers}
+use Rattle.pix_table.specs.SeenPixels.{AreSeen, over_white, seen_numbers}
+use Rattle.pix_table.specs.matching.SeenLanes.{over_black}
 use Rattle.pix_table.proofs.Writes.{mapped_more}
 use Rattle.pix_table.proofs.rgba.views.views_of.Goals as goal
 

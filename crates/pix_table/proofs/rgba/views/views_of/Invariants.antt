@@ -1,8 +1,8 @@
 -- What holds at each turn of the loop over `p` in `views_of`.
 use Rattle.std.specs.Prelude.{◌≡◌, ℕ, [], ◌-◌, ◌<◌, length, map, min, slice_index_or}
-use Rattle.pix_table.specs.Nearest.{numbers}
-use Rattle.pix_table.specs.Seen.{over_white, seen_numbers}
-use Rattle.pix_table.specs.SeenLanes.{over_black}
+use Rattle.pix_table.specs.matching.Nearest.{numbers}
+use Rattle.pix_table.specs.SeenPixels.{over_white, seen_numbers}
+use Rattle.pix_table.specs.matching.SeenLanes.{over_black}
 use Rattle.pix_table.proofs.rgba.views.views_of.Given as goal
 
 -- the first p entries, or the last one in place of those behind it, are there

@@ -2,9 +2,9 @@
 use Rattle.std.proofs.Common.{◌≡◌, ◌≢◌, ◌-◌, ◌∷◌, [], length, map, true, false, None, refl, arith, sym, ap, ◌∙◌, subst}
 use Rattle.std.proofs.lemmas.List.{length-map, get_or-map}
 use Rattle.std.specs.Prelude.{slice_index_or}
-use Rattle.pix_table.specs.Quantization.{same_color}
-use Rattle.pix_table.specs.Nearest as nearest
-use Rattle.pix_table.specs.PaletteMatch.{color_difference, difference_to}
+use Rattle.pix_table.specs.quantization.Quantization.{same_color}
+use Rattle.pix_table.specs.matching.Nearest as nearest
+use Rattle.pix_table.specs.threshold.PaletteMatch.{color_difference, difference_to}
 use Rattle.pix_palette.specs.Palette.{numbers}
 use Rattle.pix_palette.specs.Finder.{place, place_at, IsLatest}
 use Rattle.pix_palette.proofs.Finders.{IsFoundFrom, found_first, found_here, found_elsewhere, found_of_all, same_difference, other_difference, same_by}

@@ -1,6 +1,6 @@
 -- What holds at each turn of the loop in `Finder::first`.
 use Rattle.std.proofs.Common.{◌≡◌, ◌<◌, ◌≤◌, ◌-◌, length, map}
-use Rattle.pix_table.specs.Nearest as nearest
+use Rattle.pix_table.specs.matching.Nearest as nearest
 use Rattle.pix_palette.specs.Palette.{numbers}
 use Rattle.pix_palette.specs.Finder.{place, place_at}
 use Rattle.pix_palette.proofs.Finders.{IsFoundFrom}

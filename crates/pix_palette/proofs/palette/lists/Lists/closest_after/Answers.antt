@@ -1,7 +1,7 @@
 -- Of `Lists::closest_after`: that the entries before the next one are passed over.
 use Rattle.std.proofs.Common.{◌≡◌, length, map, subst}
-use Rattle.pix_table.specs.ColorBlocks.{IsBest}
-use Rattle.pix_table.specs.Nearest as nearest
+use Rattle.pix_table.specs.threshold.ColorBlocks.{IsBest}
+use Rattle.pix_table.specs.matching.Nearest as nearest
 use Rattle.pix_palette.specs.Palette.{numbers}
 use Rattle.pix_palette.proofs.Cells.{best_passes}
 use Rattle.pix_palette.proofs.palette.lists.Lists.closest_after.Goals as goal

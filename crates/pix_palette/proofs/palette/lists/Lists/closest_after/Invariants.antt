@@ -1,7 +1,7 @@
 -- What holds at each turn of the loop in `Lists::closest_after`.
 use Rattle.std.proofs.Common.{◌≤◌, ◌-◌, length, map}
-use Rattle.pix_table.specs.ColorBlocks.{IsBest}
-use Rattle.pix_table.specs.Nearest as nearest
+use Rattle.pix_table.specs.threshold.ColorBlocks.{IsBest}
+use Rattle.pix_table.specs.matching.Nearest as nearest
 use Rattle.pix_palette.specs.Palette.{numbers}
 use Rattle.pix_palette.proofs.palette.lists.Lists.closest_after.Given as goal
 

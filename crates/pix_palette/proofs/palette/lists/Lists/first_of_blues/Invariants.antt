@@ -1,8 +1,8 @@
 -- What holds at each turn of the loop over `blue` in `Lists::first_of_blues`.
 use Rattle.std.proofs.Common.{◌<◌, ◌≤◌, ◌∷◌, [], map}
 use Rattle.std.specs.Prelude.{slice_index}
-use Rattle.pix_table.specs.ColorBlocks.{Lies}
-use Rattle.pix_table.specs.Nearest as nearest
+use Rattle.pix_table.specs.threshold.ColorBlocks.{Lies}
+use Rattle.pix_table.specs.matching.Nearest as nearest
 use Rattle.pix_palette.specs.Palette.{numbers}
 use Rattle.pix_palette.specs.Finder.{AreFar, steps}
 use Rattle.pix_palette.proofs.palette.lists.Lists.first_of_blues.Given as goal

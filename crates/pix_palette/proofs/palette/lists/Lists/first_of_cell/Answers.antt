@@ -3,8 +3,8 @@
 use Rattle.std.proofs.Common.{◌≡◌, ◌-◌, [], length, map, arith, sym, ap, ◌∙◌, subst}
 use Rattle.std.proofs.lemmas.List.{length-map, get_or-map}
 use Rattle.std.specs.Prelude.{slice_index_or}
-use Rattle.pix_table.specs.Nearest as nearest
-use Rattle.pix_table.specs.PaletteMatch.{color_difference, difference_to, is_within}
+use Rattle.pix_table.specs.matching.Nearest as nearest
+use Rattle.pix_table.specs.threshold.PaletteMatch.{color_difference, difference_to, is_within}
 use Rattle.pix_palette.specs.Palette.{numbers}
 use Rattle.pix_palette.specs.Finder.{IsLatest, cell, place_at}
 use Rattle.pix_palette.proofs.Cells.{cell_begun, cell_far, cell_near}

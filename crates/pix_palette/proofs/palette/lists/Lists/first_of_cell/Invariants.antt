@@ -1,6 +1,6 @@
 -- What holds at each turn of the loop in `Lists::first_of_cell`.
 use Rattle.std.proofs.Common.{◌≡◌, ◌<◌, ◌≤◌, ◌-◌, length, map}
-use Rattle.pix_table.specs.Nearest as nearest
+use Rattle.pix_table.specs.matching.Nearest as nearest
 use Rattle.pix_palette.specs.Palette.{numbers}
 use Rattle.pix_palette.specs.Finder.{cell, place_at}
 use Rattle.pix_palette.proofs.Cells.{AreFarIn}

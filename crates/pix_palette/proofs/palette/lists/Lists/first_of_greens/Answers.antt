@@ -2,8 +2,8 @@
 -- stays, and what it tells at its end.
 use Rattle.std.specs.Prelude.{slice_index}
 use Rattle.std.proofs.Common.{◌<◌, ◌+◌, ◌∷◌, [], map, arith}
-use Rattle.pix_table.specs.Nearest as nearest
-use Rattle.pix_table.specs.ColorBlocks.{Lies}
+use Rattle.pix_table.specs.matching.Nearest as nearest
+use Rattle.pix_table.specs.threshold.ColorBlocks.{Lies}
 use Rattle.pix_palette.specs.Palette.{numbers}
 use Rattle.pix_palette.specs.Finder.{steps}
 use Rattle.pix_palette.proofs.Cells.{both_far, fewer_far, next_green}

@@ -1,8 +1,8 @@
 -- What holds at each turn of the loop over `red` in `Lists::next_near`.
 use Rattle.std.proofs.Common.{◌<◌, ◌≤◌, length, map}
 use Rattle.std.specs.Prelude.{slice_index}
-use Rattle.pix_table.specs.ColorBlocks.{Lies}
-use Rattle.pix_table.specs.Nearest as nearest
+use Rattle.pix_table.specs.threshold.ColorBlocks.{Lies}
+use Rattle.pix_table.specs.matching.Nearest as nearest
 use Rattle.pix_palette.specs.Palette.{numbers}
 use Rattle.pix_palette.specs.Finder.{AreFar, steps}
 use Rattle.pix_palette.proofs.palette.lists.Lists.next_near.Given as goal

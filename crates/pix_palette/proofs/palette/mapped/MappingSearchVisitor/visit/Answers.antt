@@ -2,7 +2,7 @@
 -- that all pixels have their indices.
 use Rattle.std.proofs.Common.{◌≡◌, ◌<◌, ℕ, List, [], length, get_or, refl, ◌∙◌, sym, subst, arith}
 use Rattle.std.proofs.lemmas.List.{get_or_default}
-use Rattle.pix_table.specs.Nearest.{IsNearest}
+use Rattle.pix_table.specs.matching.Nearest.{IsNearest}
 use Rattle.pix_palette.specs.Indexing.{colors_of}
 use Rattle.pix_palette.proofs.IndexingSets.{color_at, each_value_more, gray_more, all_gray}
 use Rattle.pix_palette.proofs.palette.mapped.MappingSearchVisitor.visit.Goals as goal

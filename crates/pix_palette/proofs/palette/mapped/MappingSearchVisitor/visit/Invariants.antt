@@ -1,6 +1,6 @@
 -- What holds at each turn of the loop over `i` in `visit` of `Mapping`.
 use Rattle.std.proofs.Common.{◌≡◌, ◌<◌, ℕ, List, [], ◌∷◌, map, take, get_or}
-use Rattle.pix_table.specs.Nearest.{IsNearest}
+use Rattle.pix_table.specs.matching.Nearest.{IsNearest}
 use Rattle.pix_palette.specs.Indexing.{colors_of, values}
 use Rattle.pix_palette.proofs.palette.mapped.MappingSearchVisitor.visit.Given as goal
 

@@ -2,7 +2,7 @@
 use Rattle.std.proofs.Common.{◌≡◌, ◌∷◌, ◌++◌, [], ◌<◌, length, sym, subst, arith, set, length-set}
 use Rattle.std.specs.Prelude.{◌/◌, ◌%◌}
 use Rattle.std.proofs.lemmas.List.{get_or-set_same}
-use Rattle.pix_table.specs.BlockBounds.{AreBlockBounds, Covers}
+use Rattle.pix_table.specs.matching.BlockBounds.{AreBlockBounds, Covers}
 use Rattle.pix_palette.proofs.PaletteBlocksMore.{span_more, span_set}
 use Rattle.pix_palette.proofs.palette.palette_blocks.PaletteBlocks.add.Goals as goal
 

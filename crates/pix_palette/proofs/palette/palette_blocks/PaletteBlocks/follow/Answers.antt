@@ -1,7 +1,7 @@
 -- Of `PaletteBlocks::follow`: that the blocks stay where there is no room, and that the invariant of its
 -- loop over `k` holds at first and after each turn.
 use Rattle.std.proofs.Common.{◌≡◌, ◌+◌, ◌*◌, ◌∷◌, ◌++◌, [], length, map, refl, sym, subst, arith, length-append}
-use Rattle.pix_table.specs.ColorBlocks.{AreBlocks, IsBlock}
+use Rattle.pix_table.specs.threshold.ColorBlocks.{AreBlocks, IsBlock}
 use Rattle.pix_palette.specs.Palette.{numbers}
 use Rattle.pix_palette.proofs.PaletteBlocksMore.{blocks_more}
 use Rattle.pix_palette.proofs.palette.palette_blocks.PaletteBlocks.follow.Goals as goal

@@ -1,7 +1,7 @@
 -- Of `RgbaTable::quantize`: the table is that of the converted pixels.
 use Rattle.std.specs.Prelude.{IfOk, MatchOption}
 use Rattle.std.proofs.Common.{◌≡◌, ◌<◌, ◌⊎◌, ◌∙◌, ap, map, subst}
-use Rattle.pix_table.specs.SeenTables.{IsQuantizedRgba}
+use Rattle.pix_table.specs.quantization.SeenTables.{IsQuantizedRgba}
 use Rattle.pix_table.specs.SrgbColor.{srgba_numbers}
 use Rattle.pix_palette.specs.RgbaTable.{colors_of_table}
 use Rattle.pix_palette.proofs.palette.rgba_table.RgbaTable.quantize.Goals as goal

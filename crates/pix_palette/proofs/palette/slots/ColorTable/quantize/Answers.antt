@@ -1,7 +1,7 @@
 -- Of `ColorTable::quantize`: that no rounds leave the table.
 use Rattle.std.proofs.Common.{map, sym}
 use Rattle.std.proofs.lemmas.Result.{IfOk-weaker}
-use Rattle.pix_table.specs.Quantization.{shown}
+use Rattle.pix_table.specs.quantization.Quantization.{shown}
 use Rattle.pix_table.specs.SrgbColor.{srgba_numbers}
 use Rattle.pix_palette.proofs.QuantizedTables.{unrefined_made}
 use Rattle.pix_palette.proofs.palette.slots.ColorTable.quantize.Goals as goal

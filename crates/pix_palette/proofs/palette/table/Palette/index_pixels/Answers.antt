@@ -2,8 +2,8 @@
 -- over `i` holds at first and stays.
 use Rattle.std.proofs.Common.{map, refl, ◌∙◌, arith}
 use Rattle.pix_palette.specs.Palette.{numbers}
-use Rattle.pix_table.proofs.CachedColors.{none_right}
-use Rattle.pix_table.proofs.IndexingSets.{none_set, one_set, all_set, stopped}
+use Rattle.pix_table.proofs.lemmas.threshold.CachedColors.{none_right}
+use Rattle.pix_table.proofs.lemmas.threshold.IndexingSets.{none_set, one_set, all_set, stopped}
 use Rattle.pix_palette.specs.Indexing.{values}
 use Rattle.pix_palette.proofs.IndexingSets.{color_at, value_more, many_colors, many_values, gray_more, all_gray}
 use Rattle.pix_palette.proofs.palette.table.Palette.index_pixels.Goals as goal

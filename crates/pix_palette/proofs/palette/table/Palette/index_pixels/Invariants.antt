@@ -1,9 +1,9 @@
 -- What holds at each turn of the loop over `i` in `Palette::index_pixels`.
 use Rattle.std.proofs.Common.{◌≡◌, ◌∷◌, [], map, take}
 use Rattle.std.specs.Option.{option_map}
-use Rattle.pix_table.specs.ColorCache.{AreRight}
-use Rattle.pix_table.specs.Setting.{IsSet}
-use Rattle.pix_table.proofs.IndexingSets.{AreSetBelow}
+use Rattle.pix_table.specs.threshold.ColorCache.{AreRight}
+use Rattle.pix_table.specs.threshold.Setting.{IsSet}
+use Rattle.pix_table.proofs.lemmas.threshold.IndexingSets.{AreSetBelow}
 use Rattle.pix_palette.specs.Palette.{Answers, numbers}
 use Rattle.pix_palette.specs.Finder.{Follows}
 use Rattle.pix_palette.specs.Indexing.{colors_of, values}

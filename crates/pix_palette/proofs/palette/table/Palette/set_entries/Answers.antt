@@ -1,7 +1,7 @@
 -- Of `Palette::set_entries`: the clause `set`, and that the invariant of its loop over `i` holds at
 -- first and stays.
 use Rattle.std.proofs.Common.{map, refl, ◌∙◌, arith}
-use Rattle.pix_table.proofs.CachedColors.{none_right}
+use Rattle.pix_table.proofs.lemmas.threshold.CachedColors.{none_right}
 use Rattle.pix_palette.specs.Palette.{numbers}
 use Rattle.pix_palette.proofs.Entries.{no_entry, one_entry, all_entries}
 use Rattle.pix_palette.proofs.palette.table.Palette.set_entries.Goals as goal

@@ -1,8 +1,8 @@
 -- What holds at each turn of the loop over `i` in `Palette::set_entries`.
 use Rattle.std.proofs.Common.{◌≡◌, map}
 use Rattle.std.specs.Option.{option_map}
-use Rattle.pix_table.specs.ColorCache.{AreRight}
-use Rattle.pix_table.specs.Setting.{IsSet}
+use Rattle.pix_table.specs.threshold.ColorCache.{AreRight}
+use Rattle.pix_table.specs.threshold.Setting.{IsSet}
 use Rattle.pix_palette.specs.Palette.{Answers, numbers}
 use Rattle.pix_palette.specs.Finder.{Follows}
 use Rattle.pix_palette.proofs.Entries.{AreEntriesBelow}

@@ -1,7 +1,7 @@
 -- Of `Palette::set_entry`: the clauses `standing` and `minimal`.
 use Rattle.std.proofs.Common.{◌≡◌, Some}
-use Rattle.pix_table.proofs.PaletteMatches.{match_minimal}
-use Rattle.pix_table.proofs.Settings.{standing_is_first}
+use Rattle.pix_table.proofs.lemmas.threshold.PaletteMatches.{match_minimal}
+use Rattle.pix_table.proofs.lemmas.threshold.Settings.{standing_is_first}
 use Rattle.pix_palette.proofs.palette.table.Palette.set_entry.Goals as goal
 
 pub returns-clause-standing : goal.returns-clause-standing

@@ -1,8 +1,8 @@
 -- Of `Palette::set_known`: its clauses, and the condition of its call of `keep`.
 use Rattle.std.proofs.Common.{◌<◌, length, sym, subst, arith}
 use Rattle.pix_palette.specs.Palette.{numbers}
-use Rattle.pix_table.proofs.CachedColors.{all_kept_is_set, set_below, set_kept_right, set_right}
-use Rattle.pix_table.proofs.Settings.{set_grows}
+use Rattle.pix_table.proofs.lemmas.threshold.CachedColors.{all_kept_is_set, set_below, set_kept_right, set_right}
+use Rattle.pix_table.proofs.lemmas.threshold.Settings.{set_grows}
 use Rattle.pix_palette.proofs.Finders.{follows_grown}
 use Rattle.pix_palette.proofs.palette.table.Palette.set_known.Goals as goal
 

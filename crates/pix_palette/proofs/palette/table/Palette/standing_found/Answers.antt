@@ -1,5 +1,5 @@
 -- Of `Palette::standing_found`: that the first entry which is the color stands for it.
-use Rattle.pix_table.proofs.Settings.{first_stands}
+use Rattle.pix_table.proofs.lemmas.threshold.Settings.{first_stands}
 use Rattle.pix_palette.proofs.palette.table.Palette.standing_found.Goals as goal
 
 pub returns-in-Some-clause-standing : goal.returns-in-Some-clause-standing

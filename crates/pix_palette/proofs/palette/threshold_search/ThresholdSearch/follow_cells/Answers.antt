@@ -2,7 +2,7 @@
 -- loop over `i` holds at first and stays.
 use Rattle.std.proofs.Common.{◌≡◌, [], length, map, get_or, refl, sym, ap, ◌∙◌, arith}
 use Rattle.std.proofs.lemmas.List.{length-map, get_or-map}
-use Rattle.pix_table.specs.Nearest as nearest
+use Rattle.pix_table.specs.matching.Nearest as nearest
 use Rattle.pix_palette.specs.Palette.{numbers}
 use Rattle.pix_palette.specs.Finder.{cell, place_at}
 use Rattle.pix_palette.proofs.palette.threshold_search.ThresholdSearch.follow_cells.Goals as goal

@@ -1,8 +1,8 @@
 -- Of `ThresholdSearch::standing_whole`: that none stands where none is near.
 use Rattle.std.proofs.Common.{map, refl}
-use Rattle.pix_table.proofs.Settings.{none_near_stands}
-use Rattle.pix_table.specs.Nearest as nearest
-use Rattle.pix_table.specs.Setting.{Always}
+use Rattle.pix_table.proofs.lemmas.threshold.Settings.{none_near_stands}
+use Rattle.pix_table.specs.matching.Nearest as nearest
+use Rattle.pix_table.specs.threshold.Setting.{Always}
 use Rattle.pix_palette.specs.Palette.{numbers}
 use Rattle.pix_palette.proofs.palette.threshold_search.ThresholdSearch.standing_whole.Goals as goal
 

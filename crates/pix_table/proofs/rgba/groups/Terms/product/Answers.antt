@@ -1,6 +1,6 @@
 -- Of `Terms::product`: that few terms have few products.
 use Rattle.std.proofs.Common.{arith}
-use Rattle.pix_table.proofs.SeenErrors.{product_few}
+use Rattle.pix_table.proofs.lemmas.quantization.SeenErrors.{product_few}
 use Rattle.pix_table.proofs.rgba.groups.Terms.product.Goals as goal
 
 pub overflow_add-result-3 : goal.overflow_add-result-3

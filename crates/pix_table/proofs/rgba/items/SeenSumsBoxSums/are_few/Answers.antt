@@ -1,7 +1,7 @@
 -- Of `are_few`: how many colors the box has.
 use Rattle.std.proofs.Common.{◌<◌, arith}
 use Rattle.std.proofs.lemmas.Bool.{ltb-true}
-use Rattle.pix_table.proofs.GroupLemmas.{seen_box_count}
+use Rattle.pix_table.proofs.lemmas.quantization.GroupLemmas.{seen_box_count}
 use Rattle.pix_table.proofs.rgba.items.SeenSumsBoxSums.are_few.Goals as goal
 
 pub returns : goal.returns

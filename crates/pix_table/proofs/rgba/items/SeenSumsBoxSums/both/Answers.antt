@@ -1,6 +1,6 @@
 -- Of `both`: that the sums fit, and that they are those of two boxes.
 use Rattle.std.proofs.Common.{arith}
-use Rattle.pix_table.proofs.GroupLemmas.{few_seen, seen_box_count, two_seen}
+use Rattle.pix_table.proofs.lemmas.quantization.GroupLemmas.{few_seen, seen_box_count, two_seen}
 use Rattle.pix_table.proofs.rgba.items.SeenSumsBoxSums.both.Goals as goal
 
 pub and-requires-clause-count : goal.and-requires-clause-count

@@ -1,7 +1,7 @@
 -- Of `box_weighs_at_most`: that the sums are few, and what the box weighs.
 use Rattle.std.proofs.Common.{◌≤◌, arith, subst}
-use Rattle.pix_table.proofs.GroupLemmas.{few_seen, seen_box_count}
-use Rattle.pix_table.proofs.SeenWeights.{whole_weight}
+use Rattle.pix_table.proofs.lemmas.quantization.GroupLemmas.{few_seen, seen_box_count}
+use Rattle.pix_table.proofs.lemmas.quantization.SeenWeights.{whole_weight}
 use Rattle.pix_table.proofs.rgba.items.SeenSumsBoxSums.box_weighs_at_most.Goals as goal
 
 pub weighs_at_most-requires-clause-some : goal.weighs_at_most-requires-clause-some

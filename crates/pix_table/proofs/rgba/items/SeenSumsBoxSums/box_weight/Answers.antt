@@ -1,7 +1,7 @@
 -- Of `box_weight`: that the sums are few, and what the box weighs.
 use Rattle.std.proofs.Common.{arith, ◌∙◌}
-use Rattle.pix_table.proofs.GroupLemmas.{few_seen, seen_box_count}
-use Rattle.pix_table.proofs.SeenWeights.{whole_weight}
+use Rattle.pix_table.proofs.lemmas.quantization.GroupLemmas.{few_seen, seen_box_count}
+use Rattle.pix_table.proofs.lemmas.quantization.SeenWeights.{whole_weight}
 use Rattle.pix_table.proofs.rgba.items.SeenSumsBoxSums.box_weight.Goals as goal
 
 pub weight-requires-clause-some : goal.weight-requires-clause-some

@@ -1,10 +1,10 @@
 -- Of `SeenLanes::nearest_from`: the ends of the blocks that are searched, and that the entry is the nearest.
 use Rattle.std.proofs.Common.{arith}
 use Rattle.std.proofs.lemmas.List.{length-take-le, get_or-take}
-use Rattle.pix_table.specs.EntryLanes.{blocks_for}
-use Rattle.pix_table.specs.Seen.{seen_numbers}
-use Rattle.pix_table.proofs.NearBlocks.{first_ends}
-use Rattle.pix_table.proofs.SeenLaneEntries.{seen_nearest}
+use Rattle.pix_table.specs.matching.EntryLanes.{blocks_for}
+use Rattle.pix_table.specs.SeenPixels.{seen_numbers}
+use Rattle.pix_table.proofs.lemmas.matching.NearBlocks.{first_ends}
+use Rattle.pix_table.proofs.lemmas.matching.SeenLaneEntries.{seen_nearest}
 use Rattle.pix_table.proofs.rgba.lanes.SeenLanes.nearest_from.Goals as goal
 
 pub nearest_near-requires-clause-near : goal.nearest_near-requires-clause-near

@@ -2,9 +2,9 @@
 -- entries are in lanes.
 use Rattle.std.proofs.Common.{arith, sym, map, ◌∙◌, length-set}
 use Rattle.std.proofs.lemmas.List.{length-map}
-use Rattle.pix_table.specs.Nearest.{numbers}
-use Rattle.pix_table.specs.Seen.{seen_numbers}
-use Rattle.pix_table.proofs.SeenLaneEntries.{block_written}
+use Rattle.pix_table.specs.matching.Nearest.{numbers}
+use Rattle.pix_table.specs.SeenPixels.{seen_numbers}
+use Rattle.pix_table.proofs.lemmas.matching.SeenLaneEntries.{block_written}
 use Rattle.pix_table.proofs.rgba.lanes.SeenLanes.of.Goals as goal
 
 pub loop-j-preserved : goal.loop-j-preserved

@@ -1,8 +1,8 @@
 -- What holds at each turn of the loop over `j` in `SeenLanes::of`.
 use Rattle.std.specs.Prelude.{◌≡◌, ℕ, ◌*◌, ◌<◌, length, map, slice_index_or}
-use Rattle.pix_table.specs.Nearest.{numbers}
-use Rattle.pix_table.specs.ColorBlocks.{IsBlock}
-use Rattle.pix_table.specs.SeenLanes.{no_views}
+use Rattle.pix_table.specs.matching.Nearest.{numbers}
+use Rattle.pix_table.specs.threshold.ColorBlocks.{IsBlock}
+use Rattle.pix_table.specs.matching.SeenLanes.{no_views}
 use Rattle.pix_table.proofs.rgba.lanes.SeenLanes.of.Given as goal
 
 -- the blocks below the index are made

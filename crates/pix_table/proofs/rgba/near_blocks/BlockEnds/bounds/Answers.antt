@@ -1,7 +1,7 @@
 -- Of `BlockEnds::bounds`: that those over black and over white are added.
 use Rattle.std.proofs.Common.{◌≡◌, get_or, ap, ◌∙◌, arith}
 use Rattle.pix_chan.specs.Number.{saturating_sum}
-use Rattle.pix_table.proofs.LaneNumbers.{lane_of}
+use Rattle.pix_table.proofs.lemmas.matching.LaneNumbers.{lane_of}
 use Rattle.pix_table.proofs.rgba.near_blocks.BlockEnds.bounds.Goals as goal
 
 pub returns-clause-each : goal.returns-clause-each

@@ -1,6 +1,6 @@
 -- Of `BlockEnds::near_bits`: that only the bits of blocks that are farther are clear.
 use Rattle.std.proofs.Common.{arith}
-use Rattle.pix_table.proofs.BlockKeys.{clear_lane_above}
+use Rattle.pix_table.proofs.lemmas.matching.BlockKeys.{clear_lane_above}
 use Rattle.pix_table.proofs.rgba.near_blocks.BlockEnds.near_bits.Goals as goal
 
 pub returns : goal.returns

@@ -1,8 +1,8 @@
 -- Of `BlockEnds::of`: that all blocks are there, over black and over white.
 use Rattle.std.proofs.Common.{get_or, length-set, arith, refl, subst, ◌∙◌}
-use Rattle.pix_table.specs.ColorBlocks.{Lies, channels_in}
-use Rattle.pix_table.specs.SeenLanes.{no_views}
-use Rattle.pix_table.proofs.NearBlocks.{side_more}
+use Rattle.pix_table.specs.threshold.ColorBlocks.{Lies, channels_in}
+use Rattle.pix_table.specs.matching.SeenLanes.{no_views}
+use Rattle.pix_table.proofs.lemmas.matching.NearBlocks.{side_more}
 use Rattle.pix_table.proofs.rgba.near_blocks.BlockEnds.of.Goals as goal
 
 pub loop-j-preserved : goal.loop-j-preserved

@@ -1,7 +1,7 @@
 -- What holds at each turn of the loop over `j` in `BlockEnds::of`.
 use Rattle.std.proofs.Common.{◌≡◌, ℕ, ◌<◌, get_or, length}
-use Rattle.pix_table.specs.Lanes.{no_block}
-use Rattle.pix_table.specs.SeenLanes.{no_views}
+use Rattle.pix_table.specs.matching.Lanes.{no_block}
+use Rattle.pix_table.specs.matching.SeenLanes.{no_views}
 use Rattle.pix_table.proofs.rgba.near_blocks.BlockEnds.of.Given as goal
 
 -- the first j are there, over black and over white

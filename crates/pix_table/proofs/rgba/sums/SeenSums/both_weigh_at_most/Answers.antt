@@ -1,7 +1,7 @@
 -- Of `SeenSums::both_weigh_at_most`: that the comparison of the products tells it.
 use Rattle.std.proofs.Common.{ℕ, ◌+◌, ◌-◌, ◌*◌, arith, ◌∙◌}
 use Rattle.std.proofs.lemmas.Bool.{ltb-true}
-use Rattle.pix_table.proofs.Gains.{four_quotients_told}
+use Rattle.pix_table.proofs.lemmas.quantization.Gains.{four_quotients_told}
 use Rattle.pix_table.proofs.rgba.sums.SeenSums.both_weigh_at_most.Goals as goal
 
 pub returns : goal.returns

@@ -1,6 +1,6 @@
 -- Of `SeenSums::weight`: that few colors weigh little.
 use Rattle.std.proofs.Common.{◌+◌, ◌*◌, ◌≤◌, arith}
-use Rattle.pix_table.proofs.SeenWeights.{both_little}
+use Rattle.pix_table.proofs.lemmas.quantization.SeenWeights.{both_little}
 use Rattle.pix_table.proofs.rgba.sums.SeenSums.weight.Goals as goal
 
 pub overflow_add-result : goal.overflow_add-result

@@ -1,8 +1,8 @@
 -- Of `distances` of `SeenBlock`: that the distances over black and over white are added.
 use Rattle.std.proofs.Common.{ap, get_or, ◌∙◌}
 use Rattle.pix_chan.specs.Number.{saturating_sum}
-use Rattle.pix_table.proofs.LaneNumbers.{lane_of}
-use Rattle.pix_table.proofs.SeenLaneEntries.{both_summed}
+use Rattle.pix_table.proofs.lemmas.matching.LaneNumbers.{lane_of}
+use Rattle.pix_table.proofs.lemmas.matching.SeenLaneEntries.{both_summed}
 use Rattle.pix_table.proofs.rgba.views.SeenBlockLaneBlock.distances.Goals as goal
 
 pub returns-clause-each : goal.returns-clause-each

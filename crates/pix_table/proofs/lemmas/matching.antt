@@ -1,0 +1,19 @@
+-- Lemmas of the nearest entries of colors.
+pub mod NearestEntries
+pub mod TransparentPixels
+pub mod LesserLanes
+pub mod NearBlocks
+pub mod Distinct
+pub mod Corners
+pub mod LaneSquares
+pub mod LaneNumbers
+pub mod LaneSearch
+pub mod LaneEntries
+pub mod ShortLists
+pub mod Words
+pub mod FoundColors
+pub mod BlockBoundLemmas
+pub mod SeenLaneEntries
+pub mod BlockGaps
+pub mod BlockKeys
+pub mod GapLanes

@@ -1,0 +1,13 @@
+-- What holds at each turn of the loop over `j` in `EntryLanes::of`.
+use Rattle.std.specs.Prelude.{◌≡◌, ℕ, ◌*◌, ◌<◌, length, map, slice_index_or}
+use Rattle.pix_table.specs.matching.Nearest.{numbers}
+use Rattle.pix_table.specs.threshold.ColorBlocks.{IsBlock}
+use Rattle.pix_table.specs.matching.Lanes.{no_block}
+use Rattle.pix_table.proofs.matching.entry_lanes.EntryLanes.of.Given as goal
+
+-- the blocks below the index are made
+abbrev pub invariant-loop-j : goal.invariant-loop-j
+invariant-loop-j l = record {
+  long : length l.blocks ≡ 16;
+  made : (k : ℕ) → k < l.j → IsBlock (map numbers l.chosen.colors) (16 * k) (slice_index_or l.blocks k no_block);
+}

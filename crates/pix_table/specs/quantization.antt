@@ -1,0 +1,24 @@
+-- Definitions of tables made from the pixels of a picture.
+pub mod Places
+pub mod Joins
+pub mod Cut
+pub mod Pairs
+pub mod BestPlaces
+pub mod Pieces
+pub mod SeenCut
+pub mod SeenSums
+pub mod PartSums
+pub mod ColorGroups
+pub mod SquaredErrors
+pub mod Grays
+pub mod Totals
+pub mod Turns
+pub mod GrayLevels
+pub mod Quantization
+pub mod Refine
+pub mod Groups
+pub mod Items
+pub mod SeenItems
+pub mod SeenGroups
+pub mod SeenTables
+pub mod SeenShares
