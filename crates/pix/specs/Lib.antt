@@ -48,24 +48,26 @@ pub use Rattle.pix_raster.specs.Bounds
 pub use Rattle.pix_raster.specs.Stays
 pub use Rattle.pix_raster.specs.Claims
 pub use Rattle.pix_raster.specs.Window
-pub use Rattle.pix_table.specs.PaletteMatch
-pub use Rattle.pix_table.specs.Setting
-pub use Rattle.pix_table.specs.Indexing as SetInTurn
-pub use Rattle.pix_table.specs.Nearest as NearestEntry
-pub use Rattle.pix_table.specs.Places as CutPlaces
-pub use Rattle.pix_table.specs.Joins
-pub use Rattle.pix_table.specs.Cut
-pub use Rattle.pix_table.specs.Quantization
-pub use Rattle.pix_table.specs.Refine
-pub use Rattle.pix_table.specs.Seen
-pub use Rattle.pix_table.specs.SeenCut
-pub use Rattle.pix_table.specs.SeenTables
-pub use Rattle.pix_table.specs.Diffusion
-pub use Rattle.pix_table.specs.SeenDiffusion
-pub use Rattle.pix_table.specs.LookUp
+pub use Rattle.pix_table.specs.threshold.PaletteMatch
+pub use Rattle.pix_table.specs.threshold.Setting
+pub use Rattle.pix_table.specs.threshold.Indexing as SetInTurn
+pub use Rattle.pix_table.specs.matching.Nearest as NearestEntry
+pub use Rattle.pix_table.specs.quantization.Places as CutPlaces
+pub use Rattle.pix_table.specs.quantization.Joins
+pub use Rattle.pix_table.specs.quantization.Cut
+pub use Rattle.pix_table.specs.quantization.Quantization
+pub use Rattle.pix_table.specs.quantization.Refine
+pub use Rattle.pix_table.specs.SeenPixels
+pub use Rattle.pix_table.specs.quantization.SeenCut
+pub use Rattle.pix_table.specs.quantization.SeenTables
+pub use Rattle.pix_table.specs.diffuse.Diffusion
+pub use Rattle.pix_table.specs.diffuse.SeenDiffusion
+pub use Rattle.pix_table.specs.packing.LookUp
 pub use Rattle.pix_palette.specs.Palette
 pub use Rattle.pix_palette.specs.Entries
 pub use Rattle.pix_palette.specs.Histogram
 pub use Rattle.pix_palette.specs.Indexing
 pub use Rattle.pix_palette.specs.ColorTable
 pub use Rattle.pix_palette.specs.RgbaTable
+pub use Rattle.pix_scale.specs.Axis
+pub use Rattle.pix_scale.specs.Call as ScaleCall

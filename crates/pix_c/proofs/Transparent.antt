@@ -3,15 +3,15 @@ use Rattle.std.proofs.Common.{◌≡◌, ℕ, zero, suc, ◌+◌, ◌%◌, ◌<�
 use Rattle.std.proofs.lemmas.Bool.{cases_lt}
 use Rattle.std.proofs.lemmas.Bool.Decides.{nat_tests}
 use Rattle.std.proofs.lemmas.List.{length-map, get_or-map, get_or_append_left, get_or_push}
-use Rattle.pix_table.specs.Nearest.{distance, alpha_of, AreMatched}
-use Rattle.pix_table.specs.ErrorBound.{IsErrorBound}
-use Rattle.pix_table.specs.LookUp.{all_below}
-use Rattle.pix_table.specs.Diffusion.{AreDiffusedBy, AreShownAround, IsDiffused, none, clear, in_picture, rgb_of}
+use Rattle.pix_table.specs.matching.Nearest.{distance, alpha_of, AreMatched}
+use Rattle.pix_table.specs.diffuse.ErrorBound.{IsErrorBound}
+use Rattle.pix_table.specs.packing.LookUp.{all_below}
+use Rattle.pix_table.specs.diffuse.Diffusion.{AreDiffusedBy, AreShownAround, IsDiffused, none, clear, in_picture, rgb_of}
 use Rattle.pix_table.specs.declared.diffuse.ScanOrder.{ScanOrder}
 use Rattle.pix_table.specs.declared.diffuse.ScanOrder.TheVariants.{LeftToRight, Serpentine}
 use Rattle.pix_c.specs.Table.{are_rows}
 use Rattle.pix_table.proofs.Below.{each_below}
-use Rattle.pix_table.proofs.ScanOrders.{in_picture_below}
+use Rattle.pix_table.proofs.lemmas.diffuse.ScanOrders.{in_picture_below}
 
 -- rows that can be scanned have a pixel, and are whole where they turn
 pub rows_whole : (scan : ScanOrder) (pixels width work indices : ℕ) → are_rows pixels width scan work indices ≡ true → (0 < width) × (scan ≡ Serpentine → pixels % width ≡ 0)

@@ -1,14 +1,14 @@
 -- The calls on tables of colors: what is refused, with which status.
 use Rattle.std.specs.Prelude.{◌≡◌, ℕ, ◌*◌, ◌%◌, ◌<◌, List, [], ◌∷◌, Bool, true, ◌&&◌, nat_eq, nat_lt, nat_le, length, map, slice_index, Option, Some, None, if◌then◌else◌}
-use Rattle.pix_table.specs.LookUp.{all_below}
-use Rattle.pix_table.specs.Nearest.{alpha_of}
-use Rattle.pix_table.specs.Packing.{pack_fault, unpack_fault}
+use Rattle.pix_table.specs.packing.LookUp.{all_below}
+use Rattle.pix_table.specs.matching.Nearest.{alpha_of}
+use Rattle.pix_table.specs.packing.Packing.{pack_fault, unpack_fault}
 use Rattle.pix_table.specs.declared.diffuse.ScanOrder.{ScanOrder}
 use Rattle.pix_table.specs.declared.diffuse.ScanOrder.TheVariants.{LeftToRight, Serpentine}
-use Rattle.pix_table.specs.declared.row.IndexDepth.{IndexDepth}
-use Rattle.pix_table.specs.declared.row.IndexDepth.TheVariants.{One, Two, Four, Eight}
-use Rattle.pix_table.specs.declared.row.RowFault.{RowFault}
-use Rattle.pix_table.specs.declared.row.RowFault.TheVariants.{Length, Index}
+use Rattle.pix_table.specs.declared.packing.row.IndexDepth.{IndexDepth}
+use Rattle.pix_table.specs.declared.packing.row.IndexDepth.TheVariants.{One, Two, Four, Eight}
+use Rattle.pix_table.specs.declared.packing.row.RowFault.{RowFault}
+use Rattle.pix_table.specs.declared.packing.row.RowFault.TheVariants.{Length, Index}
 
 -- whether there are as many entries as a table has: at least one, and at most 256
 abbrev pub is_table : ℕ → Bool

@@ -1,8 +1,8 @@
 //! Images of indices by error diffusion.
 ghost use Rattle.std.specs.Prelude.{◌≡◌, ◌≢◌, ℕ, List, length, map, nat_le};
-ghost use Rattle.pix_table.specs.Nearest.{numbers};
-ghost use Rattle.pix_table.specs.Seen.{rgba_numbers};
-ghost use Rattle.pix_table.specs.Diffusion.{AreDiffusedBy, AreShownAround};
+ghost use Rattle.pix_table.specs.matching.Nearest.{numbers};
+ghost use Rattle.pix_table.specs.SeenPixels.{rgba_numbers};
+ghost use Rattle.pix_table.specs.diffuse.Diffusion.{AreDiffusedBy, AreShownAround};
 ghost use Rattle.pix_c.specs.Table.{are_rows, diffuse_by_status, diffuse_by_alpha_status, scan_of};
 
 use crate::status::{BAD_LENGTH, DONE};
@@ -59,10 +59,17 @@ pub extern "C" fn pix_raw_diffuse_indexed_by(
     diffuse(entries, pixels, how, work, indices)
 }
 
-/// Does what [`pix_raw_diffuse_indexed_by`] does, on pixels with an alpha. A pixel whose alpha is
-/// below `alpha` gets the index `transparent_index`, and hands on no error. If all alphas are below
-/// `alpha`, a table without an entry serves too. Where it doesn't serve, the status is 11 after all
-/// others.
+/// Writes for each pixel, which has an alpha, in rows of `width`, its index by error diffusion. A
+/// pixel whose alpha is below `alpha` gets the index `transparent_index`, and hands on no error.
+/// The index of any other is that of the entry that is nearest to its color plus its share of the
+/// errors before it. Errors are held to a bound and handed on as by [`pix_raw_diffuse_indexed_by`],
+/// in the part of `strength` sixteenths and in the order that `serpentine` says.
+///
+/// Returns 0 when all indices are written. Else nothing is written. With an entry the status is
+/// then 11 where there are more than 256. Otherwise it is 15 where the strength is above 16.
+/// Otherwise it is 7, for the causes that it has there. Without an entry 11 comes last: it is the
+/// status where the alpha of a pixel isn't below `alpha`. If all are below it, such a table serves
+/// too.
 #[unsafe(no_mangle)]
 pub extern "C" fn pix_raw_diffuse_indexed_by_alpha(
     entries: &[Color],

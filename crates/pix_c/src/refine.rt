@@ -1,9 +1,9 @@
 //! Tables of colors that are made of pixels.
 ghost use Rattle.std.specs.Prelude.{◌≡◌, ◌≢◌, ◌≤◌, length, map, take};
-ghost use Rattle.pix_table.specs.Nearest.{numbers};
-ghost use Rattle.pix_table.specs.Quantization.{shown, IsQuantized};
-ghost use Rattle.pix_table.specs.Refine.{IsQuantizedRefined};
-ghost use Rattle.pix_table.specs.Seen.{rgba_numbers};
+ghost use Rattle.pix_table.specs.matching.Nearest.{numbers};
+ghost use Rattle.pix_table.specs.quantization.Quantization.{shown, IsQuantized};
+ghost use Rattle.pix_table.specs.quantization.Refine.{IsQuantizedRefined};
+ghost use Rattle.pix_table.specs.SeenPixels.{rgba_numbers};
 ghost use Rattle.pix_c.specs.Table.{quantize_status};
 
 use crate::status::{BAD_LENGTH, DONE};
@@ -12,10 +12,11 @@ use pix_table::{Color, RgbaColor, TablePixel, quantize_refined};
 
 /// Writes a table of the colors of the pixels into the first of the entries, and into `made` how
 /// many it has. With no more distinct colors than entries they are the table, in order of first
-/// place. Else it is made by the cut by squared error, and `rounds` rounds then refine it. In a
-/// round each color goes to its nearest entry, the first of equals. Each entry goes to the mean of
-/// its colors, rounded, and stays where it has none. No round makes the sum of the squared errors
-/// greater. The other entries may hold anything.
+/// place. Else, of grays alone, it has the least squared error of all tables of so many entries.
+/// Else it is made by the cut by squared error, and `rounds` rounds then refine it. In a round each
+/// color goes to its nearest entry, the first of equals. Each entry goes to the mean of its colors,
+/// rounded, and stays where it has none. No round makes the sum of the squared errors greater. The
+/// other entries may hold anything.
 ///
 /// Returns 0 when it is made. Else nothing is written. The status is then 11 where there is no
 /// entry or more than 256, and otherwise 7, where `work` has fewer colors than there are pixels.
@@ -40,8 +41,13 @@ pub extern "C" fn pix_raw_quantize_refined(
     refine_table(pixels, 0, rounds, work, entries, made)
 }
 
-/// Does what [`pix_raw_quantize_refined`] does, on pixels with an alpha. Those whose alpha is below
-/// `alpha` do not count.
+/// Writes a table of the colors of the pixels, which have an alpha, into the first of the entries,
+/// and into `made` how many it has. Pixels whose alpha is below `alpha` do not count. With no more
+/// distinct colors than entries they are the table, in order of first place. Else it is made by the
+/// cut by squared error, and refined by `rounds` rounds, as by [`pix_raw_quantize_refined`].
+///
+/// Returns 0 when it is made. Else nothing is written. The status is then 11 where there is no
+/// entry or more than 256, and otherwise 7, where `work` has fewer colors than there are pixels.
 #[unsafe(no_mangle)]
 pub extern "C" fn pix_raw_quantize_refined_alpha(
     pixels: &[RgbaColor],

@@ -1,9 +1,9 @@
 //! Tables of colors with an alpha, as they are seen over black and over white.
 ghost use Rattle.std.specs.Prelude.{◌≡◌, ◌≢◌, ◌≤◌, length, map, take};
-ghost use Rattle.pix_table.specs.LookUp.{AreLookedUp};
-ghost use Rattle.pix_table.specs.Seen.{AreSeenMatched, rgba_numbers};
-ghost use Rattle.pix_table.specs.SeenTables.{IsQuantizedRgba};
-ghost use Rattle.pix_table.specs.SeenDiffusion.{AreSeenAround, AreSeenDiffused};
+ghost use Rattle.pix_table.specs.packing.LookUp.{AreLookedUp};
+ghost use Rattle.pix_table.specs.SeenPixels.{AreSeenMatched, rgba_numbers};
+ghost use Rattle.pix_table.specs.quantization.SeenTables.{IsQuantizedRgba};
+ghost use Rattle.pix_table.specs.diffuse.SeenDiffusion.{AreSeenAround, AreSeenDiffused};
 ghost use Rattle.pix_c.specs.Table.{diffuse_by_status, look_up_status, quantize_status};
 ghost use Rattle.pix_c.specs.Table.{map_indexed_status};
 ghost use Rattle.pix_c.specs.Table.{scan_of};
@@ -12,7 +12,8 @@ use crate::diffuse::{BAD_STRENGTH, are_rows, is_strength, scan_of};
 use crate::status::{BAD_LENGTH, DONE};
 use crate::table::{BAD_INDEX, BAD_TABLE, is_table};
 use pix_table::{
-    RgbaColor, RgbaDiffusion, Seen, diffuse_indexed_rgba, look_up, map_indexed_rgba, quantize_rgba,
+    RgbaColor, RgbaDiffusion, SeenColor, diffuse_indexed_rgba, look_up, map_indexed_rgba,
+    quantize_rgba,
 };
 
 /// Writes a table of the colors of the pixels, with their alphas, into the first of the entries,
@@ -32,7 +33,7 @@ use pix_table::{
 pub extern "C" fn pix_raw_quantize_rgba(
     pixels: &[RgbaColor],
     rounds: u8,
-    work: &mut [Seen],
+    work: &mut [SeenColor],
     entries: &mut [RgbaColor],
     made: &mut usize,
 ) -> u32
@@ -107,13 +108,20 @@ pub extern "C" fn pix_raw_look_up_rgba(
     }
 }
 
-/// Writes for each pixel, in rows of `width`, its index by error diffusion, as
-/// [`pix_raw_diffuse_indexed_by`](crate::diffuse::pix_raw_diffuse_indexed_by) does: that of the
-/// entry which is seen nearest to the pixel plus its share of the errors before it. Errors are
+/// Writes for each pixel, in rows of `width`, its index by error diffusion. The index is that of
+/// the entry that is seen nearest to the pixel plus its share of the errors before it. Errors are
 /// those of colors times their alphas, and of the alphas, and so are the levels of the bound. A
-/// pixel of the alpha 0 has no share and hands on no error.
+/// pixel of the alpha 0 has no share and hands on no error. The pixel on the right gets 7
+/// sixteenths of an error, the one below on the left 3, the one below 5, and the one below on the
+/// right 1.
 ///
-/// The statuses are those of `pix_raw_diffuse_indexed_by`.
+/// `strength` sixteenths of each error are handed on. Where `serpentine` is not 0, every second row
+/// goes from right to left, and the shares are mirrored in it.
+///
+/// Returns 0 when all indices are written. Else nothing is written. The status is then 11 where
+/// there is no entry or more than 256, and otherwise 15, where the strength is above 16. Otherwise
+/// it is 7, which has four causes: a row has no pixel, `work` has not just four rows of colors,
+/// there are not as many indices as pixels, or rows turn and the pixels are not whole rows.
 #[unsafe(no_mangle)]
 pub extern "C" fn pix_raw_diffuse_indexed_rgba(
     entries: &[RgbaColor],
@@ -121,7 +129,7 @@ pub extern "C" fn pix_raw_diffuse_indexed_rgba(
     width: usize,
     strength: u8,
     serpentine: u8,
-    work: &mut [Seen],
+    work: &mut [SeenColor],
     indices: &mut [u8],
 ) -> u32
     ensures status { result ≡ diffuse_by_status (length entries.now) (length pixels.now) width

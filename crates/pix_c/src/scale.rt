@@ -2,7 +2,7 @@
 ghost use Rattle.std.specs.Prelude.{◌≡◌, ◌≢◌, ◌<◌, ◌≤◌, length, Option};
 ghost use Rattle.pix_flat.specs.Format.{rgba8, rgba8_numbers, rgba16, rgba16_numbers};
 ghost use Rattle.pix_flat.specs.Format.{graya8, graya8_numbers};
-ghost use Rattle.pix_c.specs.Scale.{filter_of, fault_status, rows_of, view_of, scale_status, IsScaledBy};
+ghost use Rattle.pix_c.specs.Scale.{filter_of, signed_of, fault_status, rows_of, view_of, scale_status, IsScaledBy};
 ghost use Rattle.pix_c.specs.Scale.{layout_of_bits, work_status, work_words};
 
 use crate::status::{BAD_FORMAT, BAD_SIZE, BAD_SOURCE, DONE};
@@ -13,9 +13,9 @@ use pix_el::rgb::{Rgba8p, Rgba16p};
 use pix_el::stored::Stored;
 use pix_flat::format::{PixGraya8, PixRgba8, PixRgba16};
 use pix_scale::fault::ScaleFault;
-use pix_scale::filter::Filter;
-use pix_scale::scale;
+use pix_scale::filter::{Filter, SignedFilter};
 use pix_scale::shape::{Rows, View};
+use pix_scale::{scale, signed};
 
 /// A side of the source or of the new picture is 0.
 pub const NO_SIDE: u32 = 16;
@@ -41,6 +41,18 @@ fn filter_of(number: u32) -> Option<Filter>
         0 => Some(Filter::Nearest),
         1 => Some(Filter::Area),
         2 => Some(Filter::Linear),
+        _ => None,
+    }
+}
+
+/// Returns the filter of a number whose weights may be negative, if there is one.
+fn signed_of(number: u32) -> Option<SignedFilter>
+    ensures { result ≡ signed_of number }
+{
+    match number {
+        3 => Some(SignedFilter::CatmullRom),
+        4 => Some(SignedFilter::Mitchell),
+        5 => Some(SignedFilter::Lanczos),
         _ => None,
     }
 }
@@ -74,11 +86,11 @@ where
     D: Stored<P>,
     requires some { 0 < P.layout.count }
     requires few { P.layout.count ≤ 8 }
-    ensures status { result ≡ scale_status P.layout (filter_of filter) view rows source_rows
-        (length pixels.old) (length source.now) (length work.old) }
+    ensures status { result ≡ scale_status P.layout (filter_of filter) (signed_of filter) view
+        rows source_rows (length pixels.old) (length source.now) (length work.old) }
     ensures refused { result ≢ 0 → pixels.new ≡ pixels.old }
-    ensures scaled { result ≡ 0 → IsScaledBy D.reads P.layout (filter_of filter) view rows
-        source_rows source.now pixels.old pixels.new }
+    ensures scaled { result ≡ 0 → IsScaledBy D.reads P.layout (filter_of filter) (signed_of filter)
+        view rows source_rows source.now pixels.old pixels.new }
 {
     match filter_of(filter) {
         Some(filter) => {
@@ -87,7 +99,23 @@ where
                 Err(fault) => fault_status(fault),
             }
         }
-        None => BAD_FILTER,
+        None => match signed_of(filter) {
+            Some(filter) => {
+                match signed::scale_signed::<P, D>(
+                    pixels,
+                    rows,
+                    view,
+                    source,
+                    source_rows,
+                    filter,
+                    work,
+                ) {
+                    Ok(()) => DONE,
+                    Err(fault) => fault_status(fault),
+                }
+            }
+            None => BAD_FILTER,
+        },
     }
 }
 
@@ -99,9 +127,10 @@ where
 /// the new picture's point (`left`, `top`). A window is that part of the whole new picture, so the
 /// picture can be drawn window by window.
 ///
-/// The filter is 0 (the nearest pixel), 1 (areas) or 2 (linear: a triangle where a side shrinks).
-/// Each channel is rounded once, to the nearest, ties up. `work` is memory to work in, of at least
-/// as many words as [`pix_raw_scale_work`] says.
+/// The filter is 0 (the nearest pixel), 1 (areas), 2 (linear: a triangle where a side shrinks),
+/// 3 (Catmull-Rom), 4 (Mitchell) or 5 (Lanczos). Each channel is rounded once, to the nearest, ties
+/// up. By the last three, which have weights below 0, a color is cut at the new alpha. `work` is
+/// memory to work in, of at least as many words as [`pix_raw_scale_work`] says.
 ///
 /// Returns 0 when the window is drawn. Else nothing is written to `pixels`, and the status is the
 /// first of these:
@@ -133,12 +162,12 @@ pub extern "C" fn pix_raw_scale(
     work: &mut [u32],
 ) -> u32
     ensures status { result ≡ scale_status rgba8 (filter_of filter)
-        (view_of left top across down) (rows_of width height stride)
+        (signed_of filter) (view_of left top across down) (rows_of width height stride)
         (rows_of source_width source_height source_stride)
         (length pixels.old) (length source.now) (length work.old) }
     ensures refused { result ≢ 0 → pixels.new ≡ pixels.old }
     ensures scaled { result ≡ 0 → IsScaledBy rgba8_numbers rgba8 (filter_of filter)
-        (view_of left top across down) (rows_of width height stride)
+        (signed_of filter) (view_of left top across down) (rows_of width height stride)
         (rows_of source_width source_height source_stride) source.now pixels.old pixels.new }
 {
     let view = View {
@@ -160,7 +189,8 @@ pub extern "C" fn pix_raw_scale(
     scale_by::<Rgba8p, PixRgba8>(pixels, rows, view, source, source_rows, filter, work)
 }
 
-/// Does what [`pix_raw_scale`] does, on 16-bit pixels of red, green, blue and alpha.
+/// Draws a window of a picture at another size, as [`pix_raw_scale`] draws it, on pixels of 16-bit
+/// red, green, blue and alpha. The arguments and the statuses are the same.
 #[unsafe(no_mangle)]
 pub extern "C" fn pix_raw_scale_rgba16(
     pixels: &mut [PixRgba16],
@@ -179,12 +209,12 @@ pub extern "C" fn pix_raw_scale_rgba16(
     work: &mut [u32],
 ) -> u32
     ensures status { result ≡ scale_status rgba16 (filter_of filter)
-        (view_of left top across down) (rows_of width height stride)
+        (signed_of filter) (view_of left top across down) (rows_of width height stride)
         (rows_of source_width source_height source_stride)
         (length pixels.old) (length source.now) (length work.old) }
     ensures refused { result ≢ 0 → pixels.new ≡ pixels.old }
     ensures scaled { result ≡ 0 → IsScaledBy rgba16_numbers rgba16 (filter_of filter)
-        (view_of left top across down) (rows_of width height stride)
+        (signed_of filter) (view_of left top across down) (rows_of width height stride)
         (rows_of source_width source_height source_stride) source.now pixels.old pixels.new }
 {
     let view = View {
@@ -206,7 +236,8 @@ pub extern "C" fn pix_raw_scale_rgba16(
     scale_by::<Rgba16p, PixRgba16>(pixels, rows, view, source, source_rows, filter, work)
 }
 
-/// Does what [`pix_raw_scale`] does, on 8-bit pixels of gray and alpha.
+/// Draws a window of a picture at another size, as [`pix_raw_scale`] draws it, on pixels of 8-bit
+/// gray and alpha. The arguments and the statuses are the same.
 #[unsafe(no_mangle)]
 pub extern "C" fn pix_raw_scale_graya8(
     pixels: &mut [PixGraya8],
@@ -225,12 +256,12 @@ pub extern "C" fn pix_raw_scale_graya8(
     work: &mut [u32],
 ) -> u32
     ensures status { result ≡ scale_status graya8 (filter_of filter)
-        (view_of left top across down) (rows_of width height stride)
+        (signed_of filter) (view_of left top across down) (rows_of width height stride)
         (rows_of source_width source_height source_stride)
         (length pixels.old) (length source.now) (length work.old) }
     ensures refused { result ≢ 0 → pixels.new ≡ pixels.old }
     ensures scaled { result ≡ 0 → IsScaledBy graya8_numbers graya8 (filter_of filter)
-        (view_of left top across down) (rows_of width height stride)
+        (signed_of filter) (view_of left top across down) (rows_of width height stride)
         (rows_of source_width source_height source_stride) source.now pixels.old pixels.new }
 {
     let view = View {
@@ -253,24 +284,43 @@ pub extern "C" fn pix_raw_scale_graya8(
 }
 
 /// Returns how many words it takes, or what is wrong with the sizes.
-fn work_for<P>(rows: Rows, view: View, source: Rows, filter: Filter, words: &mut u64) -> u32
+fn work_for<P>(rows: Rows, view: View, source: Rows, filter: u32, words: &mut u64) -> u32
 where
     P: Pixel<Alpha = Premultiplied, Gamma = Linear>,
     requires few { P.layout.count ≤ 8 }
-    ensures status { result ≡ work_status (Option.Some P.layout) (Option.Some filter) view source }
+    ensures status { result ≡ work_status (Option.Some P.layout) (filter_of filter)
+        (signed_of filter) view source }
     ensures refused { result ≢ 0 → words.new ≡ 0 }
-    ensures words { result ≡ 0 → words.new
-        ≡ work_words (Option.Some P.layout) (Option.Some filter) view rows source }
+    ensures words { result ≡ 0 → words.new ≡ work_words (Option.Some P.layout) (filter_of filter)
+        (signed_of filter) view rows source }
 {
-    match scale::scale_work::<P>(rows, view, source, filter) {
+    *words = 0;
+    let result = match filter_of(filter) {
+        Some(filter) => scale::scale_work::<P>(rows, view, source, filter),
+        None => match signed_of(filter) {
+            Some(filter) => signed::scale_signed_work::<P>(rows, view, source, filter),
+            None => return BAD_FILTER,
+        },
+    };
+    match result {
         Ok(count) => {
             *words = count;
             DONE
         }
-        Err(fault) => {
-            *words = 0;
-            fault_status(fault)
-        }
+        Err(fault) => fault_status(fault),
+    }
+}
+
+/// Returns what is wrong where there are no such pixels: the filter first.
+fn no_pixels(filter: u32) -> u32
+    ensures status { (view : View) (source : Rows) → result
+        ≡ work_status Option.None (filter_of filter) (signed_of filter) view source }
+    ensures some { result ≢ 0 }
+{
+    if filter_of(filter).is_none() && signed_of(filter).is_none() {
+        BAD_FILTER
+    } else {
+        BAD_FORMAT
     }
 }
 
@@ -293,10 +343,12 @@ pub extern "C" fn pix_raw_scale_work(
     words: &mut u64,
 ) -> u32
     ensures status { result ≡ work_status (layout_of_bits channels bits) (filter_of filter)
-        (view_of 0 0 across down) (rows_of source_width source_height source_width) }
+        (signed_of filter) (view_of 0 0 across down)
+        (rows_of source_width source_height source_width) }
     ensures refused { result ≢ 0 → words.new ≡ 0 }
     ensures words { result ≡ 0 → words.new ≡ work_words (layout_of_bits channels bits)
-        (filter_of filter) (view_of 0 0 across down) (rows_of width height width)
+        (filter_of filter) (signed_of filter) (view_of 0 0 across down)
+        (rows_of width height width)
         (rows_of source_width source_height source_width) }
 {
     let (left, top) = (0, 0);
@@ -317,18 +369,13 @@ pub extern "C" fn pix_raw_scale_work(
         stride: source_width,
     };
     *words = 0;
-    match filter_of(filter) {
-        Some(filter) => {
-            if channels == 4 && bits == 8 {
-                work_for::<Rgba8p>(rows, view, source, filter, words)
-            } else if channels == 4 && bits == 16 {
-                work_for::<Rgba16p>(rows, view, source, filter, words)
-            } else if channels == 2 && bits == 8 {
-                work_for::<Graya8p>(rows, view, source, filter, words)
-            } else {
-                BAD_FORMAT
-            }
-        }
-        None => BAD_FILTER,
+    if channels == 4 && bits == 8 {
+        work_for::<Rgba8p>(rows, view, source, filter, words)
+    } else if channels == 4 && bits == 16 {
+        work_for::<Rgba16p>(rows, view, source, filter, words)
+    } else if channels == 2 && bits == 8 {
+        work_for::<Graya8p>(rows, view, source, filter, words)
+    } else {
+        no_pixels(filter)
     }
 }

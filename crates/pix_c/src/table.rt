@@ -1,14 +1,14 @@
 //! Tables of colors, for images of indices.
 ghost use Rattle.std.specs.Prelude.{◌≡◌, ◌≢◌, ℕ, ◌<◌, ◌≤◌, List, length, map, take, Some};
 ghost use Rattle.std.specs.Prelude.{slice_index};
-ghost use Rattle.pix_table.specs.Nearest.{numbers, IsNearest, AreMatched};
-ghost use Rattle.pix_table.specs.LookUp.{AreLookedUp, AreCounted};
-ghost use Rattle.pix_table.specs.Seen.{rgba_numbers};
-ghost use Rattle.pix_table.specs.Packing.{ArePacked, AreUnpacked};
-ghost use Rattle.pix_table.specs.Setting.{Always, IsSet};
-ghost use Rattle.pix_table.specs.Indexing.{AreSet, IsStopped};
+ghost use Rattle.pix_table.specs.matching.Nearest.{numbers, IsNearest, AreMatched};
+ghost use Rattle.pix_table.specs.packing.LookUp.{AreLookedUp, AreCounted};
+ghost use Rattle.pix_table.specs.SeenPixels.{rgba_numbers};
+ghost use Rattle.pix_table.specs.packing.Packing.{ArePacked, AreUnpacked};
+ghost use Rattle.pix_table.specs.threshold.Setting.{Always, IsSet};
+ghost use Rattle.pix_table.specs.threshold.Indexing.{AreSet, IsStopped};
 ghost use Rattle.pix_table.specs.declared.color.Color.{Color};
-ghost use Rattle.pix_table.specs.declared.row.IndexDepth.{IndexDepth};
+ghost use Rattle.pix_table.specs.declared.packing.row.IndexDepth.{IndexDepth};
 ghost use Rattle.pix_c.specs.Table.{nearest_status, map_indexed_status, look_up_status};
 ghost use Rattle.pix_c.specs.Table.{map_indexed_alpha_status};
 ghost use Rattle.pix_c.specs.Table.{index_status, is_table};
@@ -62,8 +62,8 @@ pub extern "C" fn pix_raw_nearest(entries: &[Color], clr: &Color, index: &mut u8
     }
 }
 
-/// Writes for each pixel the index of the entry that is nearest to it, as [`pix_raw_nearest`]
-/// does.
+/// Writes for each pixel the index of the entry that is nearest to it, the first of equals. The
+/// distance is the sum of the squares of the differences in red, green and blue.
 ///
 /// Returns 0 when they are written. Else nothing is written. The status is then 11 where there is
 /// no entry or more than 256, and otherwise 7, where there are not as many indices as pixels.
@@ -82,9 +82,14 @@ pub extern "C" fn pix_raw_map_indexed(
     match_all(entries, pixels, 0, 0, indices)
 }
 
-/// Does what [`pix_raw_map_indexed`] does, on pixels with an alpha. A pixel whose alpha is below
-/// `alpha` gets the index `transparent_index`. The alpha of any other pixel doesn't count. If all
-/// alphas are below `alpha`, a table without an entry serves too.
+/// Writes for each pixel, which has an alpha, the index of the entry that is nearest to its color,
+/// the first of equals. A pixel whose alpha is below `alpha` gets the index `transparent_index`.
+/// The alpha of any other pixel doesn't count.
+///
+/// Returns 0 when they are written. Else nothing is written. With an entry the status is then 11
+/// where there are more than 256, and otherwise 7, where there are not as many indices as pixels.
+/// Without an entry it is 7 for that cause, and otherwise 11, where the alpha of a pixel isn't
+/// below `alpha`. If all are below it, such a table serves too.
 #[unsafe(no_mangle)]
 pub extern "C" fn pix_raw_map_indexed_alpha(
     entries: &[Color],

@@ -49,7 +49,15 @@ pub extern "C" fn pix_raw_run_window(
     )
 }
 
-/// Does what [`pix_raw_run_window`] does, on 16-bit pixels of red, green, blue and alpha.
+/// Runs `commands` in order on a window of a picture of 16-bit pixels of red, green, blue and
+/// alpha. The window is the image of `width` columns and `height` rows, which start `stride` pixels
+/// apart in `pixels`. Its first pixel lies at the point (`left`, `top`) of the picture, and the
+/// regions of the commands are regions of the picture.
+///
+/// Returns 0 when all commands are done. Else nothing was painted. The status is then 1 where the
+/// window is not in `pixels`, or `left + width` or `top + height` is above 2147483647. Otherwise it
+/// says why the first refused command is refused. `done` is the number of commands before that one.
+/// It is 0 where the window is refused, and the number of all commands when they are done.
 #[unsafe(no_mangle)]
 pub extern "C" fn pix_raw_run_window_rgba16(
     pixels: &mut [PixRgba16],
@@ -74,7 +82,15 @@ pub extern "C" fn pix_raw_run_window_rgba16(
     )
 }
 
-/// Does what [`pix_raw_run_window`] does, on 8-bit pixels of gray and alpha.
+/// Runs `commands` in order on a window of a picture of 8-bit pixels of gray and alpha. The window
+/// is the image of `width` columns and `height` rows, which start `stride` pixels apart in
+/// `pixels`. Its first pixel lies at the point (`left`, `top`) of the picture, and the regions of
+/// the commands are regions of the picture.
+///
+/// Returns 0 when all commands are done. Else nothing was painted. The status is then 1 where the
+/// window is not in `pixels`, or `left + width` or `top + height` is above 2147483647. Otherwise it
+/// says why the first refused command is refused. `done` is the number of commands before that one.
+/// It is 0 where the window is refused, and the number of all commands when they are done.
 #[unsafe(no_mangle)]
 pub extern "C" fn pix_raw_run_window_graya8(
     pixels: &mut [PixGraya8],

@@ -14,7 +14,7 @@ use Rattle.pix_scale.specs.declared.fault.ScaleFault.{ScaleFault}
 use Rattle.pix_scale.specs.declared.fault.ScaleFault.TheVariants.{NoSide, TooLarge, Outside, BadRows, BadSource, SmallWork}
 
 -- a test that is passed
-passed : (b : Bool) (rest : Option ScaleFault) (fault : ScaleFault) → unless b fault rest ≡ None → (b ≡ true) × (rest ≡ None)
+pub passed : (b : Bool) (rest : Option ScaleFault) (fault : ScaleFault) → unless b fault rest ≡ None → (b ≡ true) × (rest ≡ None)
 passed true rest fault e = (refl, e)
 passed false rest fault e = cc
 
@@ -55,7 +55,7 @@ pub record Fit (rows : Rows) (count : ℕ) : Type 0 where
   pub apart : rows.width ≤ rows.stride
   pub last : (y : ℕ) → y < rows.height → y * rows.stride + rows.width ≤ count
 
-fit : (rows : Rows) (count : ℕ) → fit_in rows count ≡ true → Fit rows count
+pub fit : (rows : Rows) (count : ℕ) → fit_in rows count ≡ true → Fit rows count
 fit rows count e =
     let parts = and_parts (nat_le rows.width rows.stride) _ e in
     record {

@@ -30,7 +30,7 @@ in_sums n k sums part low u count ch same le few lt =
     ap (λ p. get_or (put_mid (low * n) k sums part) p 0) (sym place)
     ∙ in_part (low * n) k sums part ((u - low) * count + ch) 0 lt (omega (arith, a, few))
 
-value_of_rest : {D : Type 0} (r : D → List ℕ) (xs : List D) (start x : ℕ)
+pub value_of_rest : {D : Type 0} (r : D → List ℕ) (xs : List D) (start x : ℕ)
     → get_or (map r (take (length xs - start) (drop start xs))) x [] ≡ get_or (map r xs) (start + x) []
 value_of_rest r xs start x =
     let e : take (length xs - start) (drop start xs) ≡ drop start xs = take_all (length xs - start) (drop start xs) (omega (arith, length-drop start xs)) in

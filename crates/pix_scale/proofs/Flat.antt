@@ -63,7 +63,7 @@ default_le [] c max = omega arith
 default_le (x ∷ l) zero max = omega arith
 default_le (x ∷ l) (suc c) max = default_le l c max
 
-channel_small : {D : Type 0} (r : D → List ℕ) (max : ℕ) → ((it : D) (ch : ℕ) → get_or (r it) ch max ≤ max)
+pub channel_small : {D : Type 0} (r : D → List ℕ) (max : ℕ) → ((it : D) (ch : ℕ) → get_or (r it) ch max ≤ max)
     → (xs : List D) (i c : ℕ) → get_or (get_or (map r xs) i []) c 0 ≤ max
 channel_small r max h [] i c = omega arith
 channel_small r max h (x ∷ xs) zero c = let a = h x c in let b = default_le (r x) c max in omega arith

@@ -214,7 +214,7 @@ part_of_none sum some =
     omega arith
 
 -- the steps of a sequence that does not fall add up to its rise
-total_steps : (n : ℕ) (f : ℕ → ℕ) → ((j : ℕ) → f j ≤ f (j + 1)) → (f 0 ≤ f n) × (total n (λ j. f (j + 1) - f j) ≡ f n - f 0)
+pub total_steps : (n : ℕ) (f : ℕ → ℕ) → ((j : ℕ) → f j ≤ f (j + 1)) → (f 0 ≤ f n) × (total n (λ j. f (j + 1) - f j) ≡ f n - f 0)
 total_steps zero f up = (omega arith, omega arith)
 total_steps (suc n) f up =
     let t = total_steps n f up in

@@ -10,9 +10,16 @@ mod Places
 mod Ratios
 mod Reciprocals
 mod ScaledLaws
+mod SignedCalls
+mod SignedLaws
+mod SignedRows
+mod SignedSums
+mod SignedTables
+mod SignedWeights
 mod Singles
 mod Sums
 mod Tables
 mod Terms
 mod Windows
 mod Written
+mod WholeRows

@@ -94,7 +94,7 @@ has_gcd (suc k) a b lt some = elim (cases_lt 0 b) [
 ]
 
 -- the side of a filter, in lowest terms
-side_of : (filter : Filter) (n m : ℕ) → 0 < n → 0 < m → n ≤ 65535 → IsSide (kernel_of filter n m) n m (lowest n m) (lowest m n)
+pub side_of : (filter : Filter) (n m : ℕ) → 0 < n → 0 < m → n ≤ 65535 → IsSide (kernel_of filter n m) n m (lowest n m) (lowest m n)
 side_of filter n m p q few =
     let g = has_gcd (suc m) n m (omega arith) p in
     let e : n / g.divisor ≡ lowest n m = lowest_is n m g.divisor p q g.some g.is in

@@ -14,7 +14,9 @@ use Rattle.pix_scale.specs.declared.filter.Filter.TheVariants.{Nearest, Area, Li
 use Rattle.pix_scale.specs.declared.filter.Kernel.{Kernel}
 use Rattle.pix_scale.specs.declared.filter.Kernel.TheVariants.{Point, Box, Line, Triangle}
 use Rattle.pix_scale.proofs.Places.{nearest_place, column}
-use Rattle.pix_scale.proofs.Kernels.{only_same, only_apart}
+use Rattle.pix_scale.specs.Table.{side_axis, IsSide}
+use Rattle.pix_scale.specs.declared.side.Side.{Side}
+use Rattle.pix_scale.proofs.Kernels.{only_same, only_apart, nearest_within}
 use Rattle.pix_scale.proofs.Ratios.{lowest_is}
 use Rattle.pix_scale.proofs.Reciprocals.{quotient_is}
 use Rattle.pix_scale.proofs.ScaledLaws.{nearest_whole, positive}
@@ -43,6 +45,29 @@ one_scaled max across down f x y p q a b h =
     one_total across x p (λ u. column down y (f u)) a ∙ rw col (omega arith) in
     ap (λ s. nearest max (pos s) (pos (across.whole * down.whole))) all
     ∙ nearest_whole max (f p q) (across.whole * down.whole) (positive across.whole down.whole a.some b.some) h
+
+-- by a point, the nearest place counts all
+nearest_one : (places size n m i : ℕ) → IsSide Point places size n m → i < size → One (axis_of Point places n m) i (nearest_place n m i)
+nearest_one places size n m i side lt = record {
+  some = omega arith;
+  inside = nearest_within places size n m i side lt;
+  all = only_same (nearest_place n m i) (nearest_place n m i) refl;
+  before = λ j l. only_apart j (nearest_place n m i) (omega arith);
+  behind = λ j l. only_apart j (nearest_place n m i) (omega arith);
+}
+
+one_by : (kernel : Kernel) (places size n m i : ℕ) → kernel ≡ Point → IsSide kernel places size n m → i < size → One (axis_of kernel places n m) i (nearest_place n m i)
+one_by kernel places size n m i e side lt =
+    subst (λ k. One (axis_of k places n m) i (nearest_place n m i)) (sym e) (nearest_one places size n m i (subst (λ k. IsSide k places size n m) e side) lt)
+
+-- the pixel by points is the nearest one
+pub nearest_scaled : (max : ℕ) (across down : Side) (width height : ℕ) (f : ℕ → ℕ → ℕ) (x y : ℕ) → across.kernel ≡ Point → down.kernel ≡ Point
+    → IsSide across.kernel across.places width across.n across.m → IsSide down.kernel down.places height down.n down.m → x < width → y < height
+    → f (nearest_place across.n across.m x) (nearest_place down.n down.m y) ≤ max
+    → scaled max (side_axis across) (side_axis down) f x y ≡ f (nearest_place across.n across.m x) (nearest_place down.n down.m y)
+nearest_scaled max across down width height f x y e g a b lx ly h =
+    one_scaled max (side_axis across) (side_axis down) f x y (nearest_place across.n across.m x) (nearest_place down.n down.m y)
+    (one_by across.kernel across.places width across.n across.m x e a lx) (one_by down.kernel down.places height down.n down.m y g b ly) h
 
 -- the nearest place at a whole factor
 repeats : (k i : ℕ) → 0 < k → nearest_place 1 k i ≡ i / k
@@ -117,7 +142,7 @@ scaled_times max k l width height f x y lx ly h =
     one_scaled max (axis Nearest width (k * width)) (axis Nearest height (l * height)) f x y (x / k) (y / l) (times_one width k x lx) (times_one height l y ly) h
 
 -- the terms of the same size
-own : (n : ℕ) → 0 < n → lowest n n ≡ 1
+pub own : (n : ℕ) → 0 < n → lowest n n ≡ 1
 own n p =
     let e : 1 * n ≡ n = omega arith in
     subst (λ m. lowest n m ≡ 1) e (least n 1 p (omega arith))

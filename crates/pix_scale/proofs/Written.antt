@@ -3,7 +3,7 @@ use Rattle.std.proofs.Common.{◌≡◌, ◌≢◌, ℕ, zero, suc, ◌+◌, ◌
 use borrow.Rule.Slice.PartMut.{put_mid}
 use Rattle.std.proofs.Math.Nat.{mul-le-mul_right}
 use Rattle.std.proofs.lemmas.Bool.{cases_lt}
-use Rattle.std.proofs.lemmas.List.{length-map, map-set, get_or-take}
+use Rattle.std.proofs.lemmas.List.{length-map, map-set, get_or-take, get_or-map}
 use Rattle.pix_chan.proofs.Slices.{map-put_mid}
 use Rattle.pix_scale.proofs.Parts.{before_part, in_part, after_part}
 
@@ -23,6 +23,25 @@ written_more pixels n f i pixel lt w more = record {
         subst (λ j. get_or (get_or (set pixels i pixel) j []) c 0 ≡ f j c) (sym e) (rw get_or-set_same (more c k))
   ];
 }
+
+-- the pixels below i are those of the places
+pub record Copied {D : Type 0} (r : D → List ℕ) (to from : List D) (places : List ℕ) (i : ℕ) : Type 0 where
+  pub at : (k : ℕ) → k < i → get_or (map r to) k [] ≡ get_or (map r from) (get_or places k 0) []
+
+pub copied_none : {D : Type 0} (r : D → List ℕ) (to from : List D) (places : List ℕ) → Copied r to from places 0
+copied_none r to from places = record { at = λ k lt. absurd (omega arith) }
+
+pub copied_more : {D : Type 0} (r : D → List ℕ) (to from : List D) (places : List ℕ) (i : ℕ) (pixel : D) → i < length to → get_or places i 0 < length from
+    → pixel ≡ get_or from (get_or places i 0) pixel → Copied r to from places i → Copied r (set to i pixel) from places (i + 1)
+copied_more r to from places i pixel lt in_ is copied =
+    let long : i < length (map r to) = omega (arith, length-map to r) in record {
+      at = λ k l. rw map-set (elim (cases_lt k i) [
+        | inl u ↦ let ne : k ≢ i = omega arith in rw get_or-set_other (copied.at k u)
+        | inr u ↦ let e : k ≡ i = omega arith in
+            subst (λ k. get_or (set (map r to) i (r pixel)) k [] ≡ get_or (map r from) (get_or places k 0) []) (sym e)
+            (rw get_or-set_same (ap r is ∙ sym (get_or-map r from (get_or places i 0) pixel [] in_)))
+      ]);
+    }
 
 -- the rows before y of a window are written, and everything else stays
 pub record Rows (old new : List (List ℕ)) (width stride n : ℕ) (f : ℕ → ℕ → ℕ → ℕ) (y : ℕ) : Type 0 where

@@ -38,6 +38,15 @@ memory_fault count filter view to from to_len from_len work_len =
     (unless (fit_in from from_len) BadSource
     (unless (nat_le (words count filter view to from) work_len) SmallWork None)))
 
+-- rows one after the other
+abbrev pub whole_rows : (width height : ℕ) → Rows
+whole_rows width height = record { width = width; height = height; stride = width }
+
+-- the first that is wrong with the sizes or with the window, if any
+abbrev pub window_fault : ℕ → Filter → View → (to from : Rows) → Option ScaleFault
+window_fault top filter view to from =
+    option_or (size_fault top filter view from) (unless (nat_le (view.left + to.width) view.across && nat_le (view.top + to.height) view.down) Outside None)
+
 -- why a call is refused
 abbrev pub scale_fault : (top count : ℕ) → Filter → View → (to from : Rows) → (to_len from_len work_len : ℕ) → Option ScaleFault
 scale_fault top count filter view to from to_len from_len work_len =

@@ -1,3 +1,6 @@
 pub mod Axis
 pub mod Table
 pub mod Call
+pub mod Signed
+pub mod SignedTable
+pub mod SignedCall

@@ -5,6 +5,7 @@ ghost use Rattle.pix_scale.specs.Table.{side_axis, AreSides, IsTable};
 ghost use Rattle.pix_scale.specs.Call.{size_fault, memory_fault, IsScaled};
 
 use crate::filter::Filter;
+use crate::points::draw_points;
 use crate::rounding::Divisor;
 use crate::row::scale_row;
 use crate::shape::{Rows, View};
@@ -179,5 +180,17 @@ pub(crate) fn draw<P: Pixel, D: Stored<P>>(
     }
     let across = Side::new(filter, source.width, view.across);
     let down = Side::new(filter, source.height, view.down);
-    draw_in::<P, D>(to, rows, view, from, source, across, down, work);
+    match filter {
+        Filter::Nearest => draw_points::<P, D>(
+            to,
+            rows,
+            view,
+            from,
+            source,
+            across,
+            down,
+            &mut work[..rows.width as usize],
+        ),
+        _ => draw_in::<P, D>(to, rows, view, from, source, across, down, work),
+    }
 }

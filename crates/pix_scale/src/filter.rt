@@ -29,3 +29,24 @@ impl Filter {
     /// All filters, in the order of their numbers.
     pub const ALL: [Filter; 3] = [Filter::Nearest, Filter::Area, Filter::Linear];
 }
+
+/// How a picture at another size is made by weights of which some are negative. They keep edges
+/// sharp.
+#[derive(Clone, Copy, Debug, PartialEq, Eq)]
+pub enum SignedFilter {
+    /// The cubic of Catmull and Rom, which goes through the pixels.
+    CatmullRom,
+    /// The cubic of Mitchell and Netravali, with B and C 1/3: softer, with less of a rim.
+    Mitchell,
+    /// The sine of Lanczos, up to 3 pixels away.
+    Lanczos,
+}
+
+impl SignedFilter {
+    /// All of them, in the order of their numbers.
+    pub const ALL: [SignedFilter; 3] = [
+        SignedFilter::CatmullRom,
+        SignedFilter::Mitchell,
+        SignedFilter::Lanczos,
+    ];
+}

@@ -51,7 +51,8 @@ fn add_narrow(acc: u32x4, pixel: &[u32], weight: u32) -> u32x4
     acc + u32x4::from_slice(pixel) * u32x4::splat(weight)
 }
 
-/// Does what [`sum_lanes`] does, in 32 bits. Condition: the sums fit.
+/// Returns the sums of pixels of four channels that follow each other, each pixel times its weight,
+/// in 32 bits. Condition: the sums fit.
 #[inline(always)]
 pub(crate) fn sum_narrow(sums: &[u32], weights: &[u32]) -> u32x4
     requires inside { (k : ℕ) → k < length weights.now → k * 4 + 4 ≤ length sums.now }

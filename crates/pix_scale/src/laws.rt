@@ -1,5 +1,9 @@
 //! The laws of pictures at another size: what holds of each, whatever the picture is.
-ghost use Rattle.std.specs.Prelude.{◌≡◌, ℕ, ◌*◌, ◌/◌, ◌<◌, ◌≤◌};
+ghost use Rattle.std.specs.Prelude.{◌≡◌, ℕ, ℤ, pos, ◌*◌, ◌/◌, ◌<◌, ◌≤◌};
+ghost use Rattle.pix_el.specs.Pixel.{Layout};
+ghost use Rattle.pix_scale.specs.Signed.{Taps, total_of, sum_by, cut_by};
+ghost use Rattle.pix_scale.specs.SignedCall.{signed_taps};
+ghost use Rattle.pix_scale.specs.declared.filter.SignedFilter.{SignedFilter};
 ghost use Rattle.pix_scale.specs.Axis.{Axis, IsAxis, axis, scaled};
 ghost use Rattle.pix_scale.specs.declared.filter.Filter.{Filter};
 ghost use Rattle.pix_scale.specs.declared.filter.Filter.TheVariants.{Nearest};
@@ -32,4 +36,31 @@ pub fn laws()
         → x < k * width → y < l * height → f (x / k) (y / l) ≤ max
         → scaled max (axis Nearest width (k * width)) (axis Nearest height (l * height)) f x y
         ≡ f (x / k) (y / l) }
+
+    // By weights that may be negative too, a color is at most the alpha: what is premultiplied
+    // stays so.
+    ensures premultiplied { (layout : Layout) (sums : ℕ → ℤ) (c : ℕ)
+        → layout.alpha < layout.count → cut_by layout sums c ≤ cut_by layout sums layout.alpha }
+
+    // By such weights too, a premultiplied picture of one value keeps it.
+    ensures signed_value { (layout : Layout) (across down : Taps) (a : ℕ → ℕ) (c : ℕ)
+        → total_of across.count across.weight ≡ pos 16384
+        → total_of down.count down.weight ≡ pos 16384
+        → a c ≤ layout.max
+        → (layout.alpha < layout.count → a layout.alpha ≤ layout.max)
+        → (layout.alpha < layout.count → a c ≤ a layout.alpha)
+        → cut_by layout (λ ch. sum_by across down (λ u v. a ch)) c ≡ a c }
+
+    // By any such filter, the weights add up to 2^14.
+    ensures signed_weights { (filter : SignedFilter) (n m i : ℕ) → 0 < n → 0 < m → n ≤ 65535
+        → i < m → total_of (signed_taps filter n m i).count (signed_taps filter n m i).weight
+        ≡ pos 16384 }
+
+    // By any such filter, a premultiplied picture at its own size is the picture itself.
+    ensures signed_size { (layout : Layout) (filter : SignedFilter) (width height : ℕ)
+        (get : ℕ → ℕ → ℕ → ℕ) (x y c : ℕ) → x < width → y < height → get c x y ≤ layout.max
+        → (layout.alpha < layout.count → get layout.alpha x y ≤ layout.max)
+        → (layout.alpha < layout.count → get c x y ≤ get layout.alpha x y)
+        → cut_by layout (λ ch. sum_by (signed_taps filter width width x)
+        (signed_taps filter height height y) (get ch)) c ≡ get c x y }
 {}

@@ -55,8 +55,8 @@ fn mean<C: Channel>(sum: u64, by: Divisor) -> C
     C::from_ratio(by.nearest(sum) as i64, 1)
 }
 
-/// Does what [`mean`] does, in 32 bits. Condition: the sum is at most 255 times the whole, which is
-/// below 2^23.
+/// Returns the channel nearest to a sum over the whole, ties up, in 32 bits. Condition: the sum is
+/// at most 255 times the whole, which is below 2^23.
 #[inline(always)]
 fn mean_narrow<C: Channel>(sum: u32, by: Divisor) -> C
     requires sum { sum ≤ 255 * by.whole }
@@ -66,7 +66,7 @@ fn mean_narrow<C: Channel>(sum: u32, by: Divisor) -> C
     C::from_ratio(i64::from(by.nearest_narrow(sum)), 1)
 }
 
-/// Does what [`write_pixel`] does, for four channels of 8 bits and a small whole.
+/// Writes a new pixel of four channels of 8 bits from sums of columns, by weights of a small whole.
 #[inline(always)]
 fn write_narrow<C: Channel>(to: &mut [C], sums: &[u32], weights: &[u32], by: Divisor)
     requires long { length to.old ≡ 4 }
@@ -88,7 +88,7 @@ fn write_narrow<C: Channel>(to: &mut [C], sums: &[u32], weights: &[u32], by: Div
 ///
 /// Condition: there is a pixel for each weight, and the weights add up to less than 2^31.
 #[inline(always)]
-fn pixel_sums(n: usize, sums: &[u32], weights: &[u32]) -> [u64; 8]
+pub(crate) fn pixel_sums(n: usize, sums: &[u32], weights: &[u32]) -> [u64; 8]
     requires few { n ≤ 8 }
     requires inside { (k : ℕ) → k < length weights.now → k * n + n ≤ length sums.now }
     requires fits { total (length weights.now) (slice_index weights.now) < 2 ^ 31 }
@@ -100,7 +100,7 @@ fn pixel_sums(n: usize, sums: &[u32], weights: &[u32]) -> [u64; 8]
     to
 }
 
-/// Does what [`write_pixel`] does, for four channels.
+/// Writes a new pixel of four channels from sums of columns, by weights.
 #[inline(always)]
 fn write_four<C: Channel>(to: &mut [C], sums: &[u32], weights: &[u32], by: Divisor)
     requires long { length to.old ≡ 4 }

@@ -1,6 +1,6 @@
 //! What is refused, and how much work memory it takes.
 ghost use Rattle.std.specs.Prelude.{◌≡◌, ◌+◌, ◌≤◌, ◌&&◌, nat_le, None};
-ghost use Rattle.pix_scale.specs.Call.{size_fault, fit_in, words, memory_fault};
+ghost use Rattle.pix_scale.specs.Call.{size_fault, window_fault, fit_in, words, memory_fault};
 
 use crate::fault::ScaleFault;
 use crate::filter::Filter;
@@ -28,7 +28,7 @@ pub(crate) fn size_fault<C: Channel>(filter: Filter, view: View, from: Rows) -> 
 }
 
 /// Returns whether rows, which may not overlap, lie in so many pixels.
-fn fit_in(rows: Rows, count: usize) -> bool
+pub(crate) fn fit_in(rows: Rows, count: usize) -> bool
     ensures { result ≡ fit_in rows count }
 {
     rows.width <= rows.stride
@@ -38,12 +38,31 @@ fn fit_in(rows: Rows, count: usize) -> bool
 }
 
 /// Returns whether the window lies in the new picture.
-fn is_inside(view: View, to: Rows) -> bool
+pub(crate) fn is_inside(view: View, to: Rows) -> bool
     ensures { result ≡ (nat_le (view.left + to.width) view.across
         && nat_le (view.top + to.height) view.down) }
 {
     u64::from(view.left) + u64::from(to.width) <= u64::from(view.across)
         && u64::from(view.top) + u64::from(to.height) <= u64::from(view.down)
+}
+
+/// Returns what is wrong with the sizes or with the window, if anything.
+pub(crate) fn window_fault<C: Channel>(
+    filter: Filter,
+    view: View,
+    to: Rows,
+    from: Rows,
+) -> Option<ScaleFault>
+    ensures { result ≡ window_fault C.max filter view to from }
+{
+    if let Some(fault) = size_fault::<C>(filter, view, from) {
+        return Some(fault);
+    }
+    if is_inside(view, to) {
+        None
+    } else {
+        Some(ScaleFault::Outside)
+    }
 }
 
 /// Returns how many words of work memory it takes. Condition: nothing is wrong with the sizes, and

@@ -1,7 +1,7 @@
 -- Of `diffuse_transparent`: that pixels which are all transparent are diffused, whatever the entries are.
 use Rattle.std.proofs.Common.{◌%◌, length, map, sym, ap, ◌∙◌}
 use Rattle.std.proofs.lemmas.List.{length-map}
-use Rattle.pix_table.specs.Seen.{rgba_numbers}
+use Rattle.pix_table.specs.SeenPixels.{rgba_numbers}
 use Rattle.pix_c.proofs.Transparent.{rows_whole, transparent_diffused, transparent_shown}
 use Rattle.pix_c.proofs.diffuse.diffuse_transparent.Goals as goal
 

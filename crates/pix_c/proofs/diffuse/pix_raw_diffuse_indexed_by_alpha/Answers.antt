@@ -2,7 +2,7 @@
 -- transparent.
 use Rattle.std.proofs.Common.{rules, ◌≡◌, length, map, ◌∙◌}
 use Rattle.std.proofs.lemmas.List.{length-map}
-use Rattle.pix_table.specs.Nearest.{numbers}
+use Rattle.pix_table.specs.matching.Nearest.{numbers}
 use Rattle.pix_c.proofs.diffuse.pix_raw_diffuse_indexed_by_alpha.Goals as goal
 
 pub returns-then-is_empty-clause-done : goal.returns-then-is_empty-clause-done

@@ -1,7 +1,7 @@
 -- Of `pix_raw_map_indexed_alpha`: that pixels which are all transparent are matched, whatever the
 -- entries are.
 use Rattle.std.proofs.Common.{map}
-use Rattle.pix_table.specs.Nearest.{numbers}
+use Rattle.pix_table.specs.matching.Nearest.{numbers}
 use Rattle.pix_c.proofs.table.pix_raw_map_indexed_alpha.Goals as goal
 
 pub returns-then-map_transparent-clause-done : goal.returns-then-map_transparent-clause-done

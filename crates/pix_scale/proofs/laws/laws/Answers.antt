@@ -1,6 +1,7 @@
 use Rattle.pix_scale.proofs.ScaledLaws.{filters_add_up, scaled_le, scaled_const}
 use Rattle.pix_scale.proofs.Singles.{scaled_own, scaled_times}
+use Rattle.pix_scale.proofs.SignedLaws.{cut_premultiplied, cut_value, signed_adds_up, own_size}
 use Rattle.pix_scale.proofs.laws.laws.Goals as goal
 
 pub returns : goal.returns
-returns c = record { weights = filters_add_up; order = scaled_le; value = scaled_const; size = scaled_own; nearest = scaled_times }
+returns c = record { weights = filters_add_up; order = scaled_le; value = scaled_const; size = scaled_own; nearest = scaled_times; premultiplied = cut_premultiplied; signed_value = cut_value; signed_weights = signed_adds_up; signed_size = own_size }
