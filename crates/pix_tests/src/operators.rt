@@ -1,4 +1,4 @@
-//! The thirteen operators on every channel of a grid.
+//! Every operator on every channel of a grid.
 ghost use Rattle.std.specs.Prelude.{◌<◌};
 
 use pix::chan::{Ch8, Channel};

@@ -5,10 +5,13 @@ ghost use Rattle.pix_raster.specs.declared.fault.RasterFault.{RasterFault};
 use pix::bgr::Bgra16p;
 use pix::chan::{Ch8, Linear, Premultiplied};
 use pix::el::{Pix, Pixel};
+use pix::filter::Filter;
 use pix::gray::{Gray8, Gray16};
 use pix::matte::Matte8;
 use pix::ops::{Op, SrcOver};
 use pix::rgb::{Rgba8, Rgba8p, Rgba16p};
+use pix::scaled::{RasterScaleFault, scaled_raster};
+use pix::shape::View;
 use pix::{ColorModel, Command, Raster, RasterFault, Region};
 use std::alloc::Global;
 
@@ -21,6 +24,22 @@ pub fn sizes(alloc: Global) -> Result<((u32, u32), Region, Region), RasterFault>
     let all = page.region(); // Region::new(0, 0, 64, 48)
     let part = page.intersection(Region::new(60, 40, 9, 9)); // Region::new(60, 40, 4, 8)
     Ok((size, all, part))
+}
+
+/// Makes a small picture of a photograph in light: each pixel is the mean of those under it.
+pub fn thumbnail(
+    alloc: Global,
+    photo: &Raster<Rgba16p>,
+) -> Result<Raster<Rgba16p>, RasterScaleFault>
+    ensures size { IfOk result (λ r. (r.width ≡ 160) × (r.height ≡ 120)) }
+{
+    let view = View {
+        left: 0,
+        top: 0,
+        across: 160,
+        down: 120,
+    };
+    scaled_raster(alloc, photo, view, 160, 120, Filter::Area)
 }
 
 /// Makes rasters of other formats, one from another.
