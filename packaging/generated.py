@@ -65,9 +65,9 @@ OTHERS = [
 MODULE = Made("pix_c.wasm", "the library, for WebAssembly with SIMD and a 32-bit memory", "pix_c", WASM, "lime1", ("--target", WASM))
 # How it comes from what is proved; built.json says so, since it is no output of the kit.
 HOW = "the module of LLVM that rattle makes for wasm64, compiled by the kit's clang with -msimd128; packaging/wasm.py gave it a 32-bit memory"
-SAID, FACTS = "built.json", "facts.js"
-# The JavaScript package, which has a copy of the facts: an engine takes it as it stands.
-PACKAGE = TOP / "bindings/js"
+SAID = "built.json"
+# What JavaScript and the page take from the header, the operators and the examples.
+FACTS = "bindings/js/facts.js"
 LARGEST = 4_000_000
 # What compiles in the place of the kit's clang, and writes the assembly too, or another object, and keeps the module and the words: rattle runs it with no
 # environment, so the folder beside it is where that goes. For aarch64 a first call prints the module as text, and a second one compiles what rattle made of
@@ -179,27 +179,9 @@ def sums(folder, files):
     return "".join(f"{sum_of((folder / name).read_bytes())}  {name}\n" for name in files)
 
 
-def copies():
-    """Returns each file that is a copy, with the file that it is a copy of."""
-    return [(PACKAGE / FACTS, FOLDER / FACTS)] if (FOLDER / FACTS).is_file() else []
-
-
-def copy_page():
-    """Makes the copies anew."""
-    for path, of in copies():
-        shutil.copyfile(of, path)
-
-
-def other_copies():
-    """Yields each file that should be a copy and is not."""
-    for path, of in copies():
-        if not path.is_file() or path.read_bytes() != of.read_bytes():
-            yield f"{path.relative_to(TOP)} is no copy of {of.relative_to(TOP)}: tools/generate --page makes it"
-
-
 def stale(line=None):
     """Yields each way in which the files of generated/ are not whole, or not of just these sources; without a line, a file's own kit is taken for this one."""
-    lacking = [name for name in [*(made.name for made in [*MADE, *OTHERS]), FACTS, SUMS] if not (FOLDER / name).is_file()]
+    lacking = [name for name in [*(made.name for made in [*MADE, *OTHERS]), SUMS] if not (FOLDER / name).is_file()]
     if lacking:
         yield f"generated/ lacks {', '.join(lacking)}: tools/generate makes it"
         return
@@ -209,7 +191,6 @@ def stale(line=None):
         yield f"generated/{name} is not the file that generated/{SUMS} lists: a byte of it was changed, or it is missing"
     if not other:
         yield from other_sources(line)
-        yield from other_copies()
 
 
 def logic_of(line):

@@ -16,11 +16,11 @@ import wasm  # noqa: E402
 HEADER = "bindings/c/pix.h"
 OPERATORS = "crates/pix_ops/specs/Operators.antt"
 EXAMPLES = TOP / "examples"
-PICTURES = ["triangle.png"]
+PICTURES = ["pictures/triangle.png", "apps/pictures/leaf.png"]
 # The JavaScript package: modules of web/page take it from here, those of the assembled page from a folder of theirs.
 PACKAGE = TOP / "bindings/js"
 # What stands elsewhere in a clone, which is served whole, and where the assembled page has it.
-MOVED = {"../../bindings/js/": "./pix/", "../../generated/": "", "../../examples/": "examples/", "../../pictures/": "", "../../": ""}
+MOVED = {"../../bindings/js/": "./pix/", "../../generated/": "", "../../examples/": "examples/", "../../pictures/": "", "../../apps/pictures/": "", "../../": ""}
 # The files that the foot of the page links to.
 LINKED = ["README.md", "LICENSE", "docs/THEOREM.md", "docs/tasks/README.md"]
 TARGET = "wasm64-unknown-unknown"
@@ -179,7 +179,7 @@ def assemble(module, built, target):
     for path in sorted(EXAMPLES.glob("*.paint")):
         shutil.copyfile(path, target / "examples" / path.name)
     for name in PICTURES:
-        shutil.copyfile(TOP / "pictures" / name, target / name)
+        shutil.copyfile(TOP / name, target / pathlib.Path(name).name)
     for name in LINKED:
         (target / name).parent.mkdir(parents=True, exist_ok=True)
         shutil.copyfile(TOP / name, target / name)

@@ -22,7 +22,7 @@ FAULTS = [
     ("painting.js", "            draw();\n            if", "            if", "rows"),
     ("painting.js", "if (isDrawn || !kept)", "if (!kept)", "rows"),
     ("painting.js", "to: [tx, ty, width, height], from: [fx, fy,", "to: [fx, fy, width, height], from: [tx, ty,", "rows"),
-    ("exact.js", "READS = { Zero: 0, One: 0, Alpha: 1, OneMinusAlpha: 1 }", "READS = { Zero: 0, One: 0, Alpha: 1, OneMinusAlpha: 0 }", "budget"),
+    ("exact.js", "READS = { Zero: 0, One: 0, OtherAlpha: 1, OneMinusAlpha: 1 }", "READS = { Zero: 0, One: 0, OtherAlpha: 1, OneMinusAlpha: 0 }", "budget"),
     ("exact.js", "sum < MAX * part ? sum : MAX * part", "sum", "budget"),
     ("exact.js", "ENTERS[dest] * budget.channel", "budget.channel", "budget"),
     ("history.js", "column < width && row < height", "column <= width && row < height", "budget"),

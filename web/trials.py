@@ -17,7 +17,7 @@ ROWS = TOP / "crates/pix_cases/data/scripts.txt"
 OPERATORS = model.operators((TOP / "docs/FORMATS.md").read_text(encoding="utf-8"))
 ORDER = re.findall(r"^row (\w+) =", (TOP / "crates/pix_ops/specs/Operators.antt").read_text(encoding="utf-8"), re.M)
 # The pictures of the page in pictures/: whether the page is light or dark, and the first and the last element that each shows.
-PICTURES = {"web.png": ("light", "page", "operators"), "web-dark.png": ("dark", "scripts", "text")}
+PICTURES = {"web.png": ("light", "page", "operators"), "web-dark.png": ("dark", "scripts", "text"), "web-sizes.png": ("light", "sizes", "sizes")}
 # The roles of what has to have a name.
 NAMED = "button slider textbox spinbutton checkbox radio combobox ColorWell img image application meter link region table".split()
 
@@ -409,22 +409,24 @@ def middle_of(browser, name, side, count=64):
 def try_sizes(browser):
     """At its own size the picture is itself by each filter; at twice that nearest and area have each pixel twice, and linear hasn't; and made smaller they differ."""
 
-    def at(percent):
-        enter(browser, "size", str(percent))
-        return [middle_of(browser, f"sizes-{name}", 256 * percent // 100) for name in ("nearest", "area", "linear")]
+    def at(place):
+        enter(browser, "size", str(place))
+        side = {0: 320, 10: 640, -10: 160}[place]
+        return [middle_of(browser, f"sizes-{name}", side) for name in ("nearest", "area", "linear")]
 
     browser.look(1280)
-    code = """{ const copy = Object.assign(document.createElement('canvas'), { width: 256, height: 256 }).getContext('2d');
-        copy.drawImage(document.getElementById('triangle'), 0, 0);
-        Array.from(copy.getImageData(96, 96, 64, 64).data) }"""
+    code = """{ const copy = Object.assign(document.createElement('canvas'), { width: 320, height: 320 }).getContext('2d');
+        copy.drawImage(document.getElementById('leaf'), 0, 0);
+        Array.from(copy.getImageData(128, 128, 64, 64).data) }"""
     itself = bytes(browser.run(code))
-    wants("which pictures of its own size are the picture", [made == itself for made in at(100)], [True] * 3)
-    nearest, area, linear = at(200)
+    wants("which pictures of its own size are the picture", [made == itself for made in at(0)], [True] * 3)
+    nearest, area, linear = at(10)
     wants("whether pixels stay sharp", (nearest == area, area == linear), (True, False))
-    wants("the size that is said", of(browser, "size-said", "textContent"), "200 %")
+    said = [of(browser, "size-said", "textContent"), browser.run("document.getElementById('size').getAttribute('aria-valuetext')")]
+    wants("the size that is said", said, ["200 %", "200 %"])
     seconds = b"".join(nearest[512 * row + 8 * column :][:4] for row in range(32) for column in range(32))
     wants("whether each pixel is there twice", seconds == b"".join(itself[256 * row + 64 :][:128] for row in range(16, 48)), True)
-    nearest, area, _ = at(40)
+    nearest, area, _ = at(-10)
     wants("whether a pixel is the mean of what it covers", nearest == area, False)
 
 
@@ -439,10 +441,10 @@ def try_library(browser):
     code = """import('./pix/pix.js').then(async ({ clear, compositeColor, copyImage, load }) => {
         const image = (await load('pix_c.wasm')).newImage(2, 2), all = [0, 0, 2, 2];
         const said = (command) => { try { image.run(command()); return 'done'; } catch (error) { return error.status ?? error.message; } };
-        return [said(() => copyImage(all, image)), said(() => ({ ...clear(), kind: 99 })), said(() => ({ ...clear(), kind: 3, op: 13 })),
-            said(() => compositeColor(all, [0, 0, 0, 0], { op: 13 }))];
+        return [said(() => copyImage(all, image)), said(() => ({ ...clear(), kind: 99 })), said(() => ({ ...clear(), kind: 3, op: 99 })),
+            said(() => compositeColor(all, [0, 0, 0, 0], { op: 99 }))];
     })"""
-    refused = ["OVERLAP", "BAD_KIND", "BAD_OP", "13 is no operator: write Op.SrcOver or 'SrcOver'"]
+    refused = ["OVERLAP", "BAD_KIND", "BAD_OP", "99 is no operator: write Op.SrcOver or 'SrcOver'"]
     wants("what is refused", browser.run(code), refused)
 
 

@@ -87,6 +87,25 @@ static void glaze(uint8_t *photo, pix_rgba16 *light, uint32_t width, uint32_t he
     check(pix_convert_bitmap(pix_bitmap_view_of_bitmap(in_light), bytes));
 }
 
+/* Makes a thumbnail of a photograph, both of bytes of sRGB: decodes them to light, scales by areas,
+ * and encodes. `light` and `means` are room for both pictures in light. */
+static void make_thumbnail(pix_bitmap photo, pix_bitmap thumbnail, pix_rgba16 *light,
+                           pix_rgba16 *means) {
+    pix_image_rgba16 large = pix_image_of_rgba16(light, photo.width, photo.height);
+    pix_image_rgba16 small = pix_image_of_rgba16(means, thumbnail.width, thumbnail.height);
+    pix_view_rgba16 source = pix_view_of_image_rgba16(large);
+    pix_size from = {large.width, large.height}, size = {small.width, small.height};
+    pix_point corner = {0, 0};
+    size_t words = pix_scale_work_rgba16(size, size, from, PIX_FILTER_AREA);
+    uint32_t *work = malloc(words * sizeof *work);
+    if (!work)
+        exit(1);
+    check(pix_convert_bitmap(pix_bitmap_view_of_bitmap(photo), pix_bitmap_of_image_rgba16(large)));
+    check(pix_scale_rgba16(small, corner, size, source, PIX_FILTER_AREA, work, words));
+    check(pix_convert_bitmap(pix_bitmap_view_of_bitmap(pix_bitmap_of_image_rgba16(small)), thumbnail));
+    free(work);
+}
+
 /* Makes a table of at most 16 colors of a picture, and the index of each pixel in it. Returns how
  * many colors the table has. */
 static size_t index_picture(const pix_srgb8 *pixels, size_t count, size_t width, pix_srgb8 *table,
@@ -169,6 +188,13 @@ int main(int count, char **words) {
     read_lake(words[1], photo);
     glaze(&photo[0].r, light, 160, 100);
     write_ppm("light.ppm", photo, 160, 100);
+
+    static pix_srgb8 thumbnail[64 * 40];
+    static pix_rgba16 means[64 * 40];
+    read_lake(words[1], photo);
+    make_thumbnail(pix_bitmap_of(photo, 160, 100, PIX_FORMAT_SRGB8),
+                   pix_bitmap_of(thumbnail, 64, 40, PIX_FORMAT_SRGB8), light, means);
+    write_ppm("thumbnail.ppm", thumbnail, 64, 40);
 
     static pix_srgb8 shown[160 * 100];
     static uint8_t indices[160 * 100];

@@ -113,6 +113,38 @@ static void a_table(void) {
     check(status == PIX_OK && made == 16 && indices[0] == 0 && indices[COUNT - 1] == 15, "a table");
 }
 
+static void a_tile(void) {
+    pix_rgba8 pixels[16 * 16];
+    pix_image tile = pix_image_of(pixels, 16, 16);
+    memset(pixels, 0, sizeof pixels);
+    pix_command red = pix_copy_color(pix_region_of(60, 60, 40, 40), pix_rgba8_of(200, 0, 0, 255));
+    pix_status status = pix_run_window(tile, 48, 48, &red, 1, NULL);
+    check(status == PIX_OK && is_pixel(pixels[12 * 16 + 12], 200, 0, 0, 255) && !pixels[12 * 16 + 11].a, "a tile");
+}
+
+static void a_gray(void) {
+    pix_srgb8 ends[2] = {{0, 0, 0}, {255, 255, 255}};
+    pix_srgb8 gray[4] = {{128, 128, 128}, {128, 128, 128}, {128, 128, 128}, {128, 128, 128}}, work[16];
+    uint8_t indices[4];
+    pix_status status = pix_diffuse_indexed(pix_table_of(ends, 2), gray, 4, 4, work, indices);
+    check(status == PIX_OK && indices[0] == 1 && !indices[1] && indices[2] == 1 && !indices[3], "a gray");
+}
+
+static void colors_one_by_one(void) {
+    pix_srgb8 colors[3] = {{9, 9, 9}, {200, 200, 200}, {11, 11, 11}}, near = {2, 2, 2}, entries[256];
+    uint8_t indices[3];
+    size_t used = 0;
+    memset(entries, 0, sizeof entries);
+    pix_status status = pix_index_pixels(entries, 256, &used, near, colors, 3, indices);
+    check(status == PIX_OK && used == 2 && !indices[0] && indices[1] == 1 && !indices[2], "colors one by one");
+}
+
+static void a_row(void) {
+    uint8_t row[5] = {3, 0, 1, 2, 3}, packed[2];
+    pix_status status = pix_pack_row(2, row, 5, packed);
+    check(status == PIX_OK && packed[0] == 0xc6 && packed[1] == 0xc0, "a row");
+}
+
 #define TEXT_OF(NAME, WORD) #WORD,
 static const char *const texts[PIX_OP_COUNT] = {PIX_EACH_OP(TEXT_OF)};
 
@@ -176,9 +208,13 @@ int main(void) {
     a_photo();
     a_thumbnail();
     a_table();
+    a_tile();
+    a_gray();
+    colors_one_by_one();
+    a_row();
     check(!strcmp(texts[PIX_OP_SRC_OVER], "SrcOver"), "words of operators");
     const int lines = compare_lines();
-    check(lines > 25, "too few lines of examples");
+    check(lines > 40, "too few lines of examples");
     printf("examples: %d lines of pix.h, %d failures\n", lines, failures);
     return failures != 0;
 }

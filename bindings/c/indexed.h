@@ -231,7 +231,62 @@ static inline size_t plain_cut(pix_srgb8 *colors, size_t count, pix_srgb8 *entri
     return used;
 }
 
-/* The table of colors: the distinct ones in order of first place, or the means of boxes. */
+/* Whether all colors are grays. */
+static inline int plain_grays(const pix_srgb8 *colors, size_t count) {
+    size_t i;
+    for (i = 0; i < count && colors[i].g == colors[i].r && colors[i].b == colors[i].r; i++) {
+    }
+    return i == count;
+}
+
+/* The squared error of the levels from one up to another, of so many colors each, in one channel, where all are shown by their
+ * mean, and that mean. */
+static inline uint64_t plain_span(const uint64_t *counts, size_t low, size_t high, uint8_t *mean) {
+    uint64_t count = 0, sum = 0, error = 0;
+    size_t v;
+    for (v = low; v < high; v++) {
+        count += counts[v];
+        sum += counts[v] * v;
+    }
+    *mean = (uint8_t)(count ? (2 * sum + count) / (2 * count) : low);
+    for (v = low; v < high; v++)
+        error += counts[v] * (v > *mean ? v - *mean : *mean - v) * (v > *mean ? v - *mean : *mean - v);
+    return error;
+}
+
+/* A table of grays with the least squared error: the levels are split in every way, by one more entry each time. */
+static inline size_t plain_gray_table(const pix_srgb8 *colors, size_t count, pix_srgb8 *entries, size_t room) {
+    static uint64_t errors[256][257], spans[256][257];
+    static size_t begins[256][257];
+    uint64_t counts[256] = {0};
+    uint8_t mean;
+    size_t i, k, low, high, used = 0;
+    for (i = 0; i < count; i++)
+        counts[colors[i].r]++;
+    for (low = 0; low < 256; low++)
+        for (high = low + 1; high <= 256; high++)
+            spans[low][high] = plain_span(counts, low, high, &mean);
+    for (k = 0; k < room; k++)
+        for (high = 1; high <= 256; high++) {
+            errors[k][high] = spans[0][high];
+            begins[k][high] = 0;
+            for (low = 1; k && low < high; low++)
+                if (errors[k - 1][low] + spans[low][high] < errors[k][high]) {
+                    errors[k][high] = errors[k - 1][low] + spans[low][high];
+                    begins[k][high] = low;
+                }
+        }
+    for (high = 256, k = room; high; high = low) {
+        low = begins[--k][high];
+        plain_span(counts, low, high, &mean);
+        entries[used].r = entries[used].g = entries[used].b = mean;
+        used++;
+    }
+    return used;
+}
+
+/* The table of colors: the distinct ones in order of first place, where there is room; of grays one with the least squared error;
+ * or else the means of boxes. */
 static inline size_t plain_table(const pix_srgb8 *colors, size_t count, pix_srgb8 *entries, size_t room) {
     pix_srgb8 *copy;
     size_t used = 0, i, j;
@@ -246,6 +301,8 @@ static inline size_t plain_table(const pix_srgb8 *colors, size_t count, pix_srgb
     }
     if (i == count)
         return used;
+    if (plain_grays(colors, count))
+        return plain_gray_table(colors, count, entries, room);
     copy = (pix_srgb8 *)malloc(count * sizeof *copy);
     if (!copy)
         abort();
@@ -275,10 +332,10 @@ static inline void plain_round(const pix_srgb8 *colors, size_t count, pix_srgb8 
     }
 }
 
-/* The table of colors after so many rounds, which leave distinct colors as they are. */
+/* The table of colors after so many rounds, which leave distinct colors and tables of grays as they are. */
 static inline size_t plain_refined(const pix_srgb8 *colors, size_t count, pix_srgb8 *entries, size_t room, unsigned rounds) {
     const size_t used = plain_table(colors, count, entries, room);
-    while (rounds--)
+    while (rounds-- && !plain_grays(colors, count))
         plain_round(colors, count, entries, used);
     return used;
 }

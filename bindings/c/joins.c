@@ -124,12 +124,21 @@ static int is_entry(int way, size_t i) {
     return entries[i].r == want.r && entries[i].g == want.g && entries[i].b == want.b && want.a == 255;
 }
 
-/* Whether a table of the picture is that of the model; there is none to be compared where all of its colors are the same. */
+/* Whether all of some colors are grays. */
+static int are_grays(const seen *some, size_t count) {
+    size_t k;
+    for (k = 0; k < count && some[k].n[1] == some[k].n[0] && some[k].n[2] == some[k].n[0]; k++) {
+    }
+    return k == count;
+}
+
+/* Whether a table of the picture is that of the model. There is none to be compared where all of its colors are the same, or
+ * where they are grays and their alphas do not count: such a table has the least squared error (table.c). */
 static int is_same(int way, size_t count, unsigned *compared) {
     const uint8_t alpha = (uint8_t)any(256), rounds = (uint8_t)(any(2) ? any(4) : 0);
     const size_t left = see(way, count, alpha);
     size_t places[ROOM], differ = distinct_seen(colors, left, places, ROOM), room, used, i;
-    if (differ < 2)
+    if (differ < 2 || (way < 2 && are_grays(colors, left)))
         return 1;
     room = room_below(differ);
     memcpy(copy, colors, left * sizeof *copy);

@@ -15,8 +15,7 @@
  * Pixels. Compositing works on premultiplied, linear pixels: the colors are multiplied by the
  * alpha, and they are proportional to light. Images in files are mostly sRGB and not premultiplied.
  * pix_convert_bitmap turns one into the other. To images of 16 bits a channel it loses nothing of
- * pixels with an alpha of at least 13. There are three kinds of images, and each function on them
- * is there three times:
+ * pixels with an alpha of at least 13. Each function on images is there for each kind of them:
  *
  *     pix_image          pix_rgba8    8 bits a channel: red, green, blue, alpha
  *     pix_image_rgba16   pix_rgba16   16 bits a channel; its functions and types end in _rgba16
@@ -51,11 +50,14 @@
  * Stack. A call allocates nothing: its work memory is on the stack of its thread. These are the KiB
  * that a thread's stack needs for each call:
  *
- *     272   pix_quantize, pix_quantize_refined, pix_map_indexed, pix_diffuse_indexed,
- *           pix_diffuse_indexed_by, and all five with _alpha
+ * made by tools/names: stack
+ *     272   pix_map_indexed, pix_map_indexed_alpha, pix_quantize, pix_quantize_refined,
+ *           pix_quantize_alpha, pix_quantize_refined_alpha, pix_diffuse_indexed,
+ *           pix_diffuse_indexed_by, pix_diffuse_indexed_alpha, pix_diffuse_indexed_by_alpha
  *     128   pix_quantize_rgba
  *      48   pix_index_pixels, pix_map_indexed_rgba, pix_diffuse_indexed_rgba
  *      24   all others
+ * made by tools/names: end
  *
  * The thread's own first frames are among them, and 8 KiB for a signal handler that runs meanwhile:
  * its frame alone takes about 4 on a processor with AVX-512. A handler that needs more has a stack
@@ -189,12 +191,15 @@ typedef struct { const pix_graya8 *pixels; uint32_t width, height, stride; } pix
  * bottom to top: `pixels` still points to the top row, which is the last one in memory. Bytes between
  * the rows are not changed. */
 typedef struct { void *pixels; uint32_t width, height; ptrdiff_t stride; pix_format format; } pix_bitmap;
+
+/* The same of an image that is only read. */
 typedef struct { const void *pixels; uint32_t width, height; ptrdiff_t stride; pix_format format; } pix_bitmap_view;
 
-/* A mask: the fraction of a color or of a source that is composited at each point. It goes from 0
- * (none) to 255 (all), or to 65535 in pix_matte16. pix_matte goes with all images, and pix_matte16
- * with those of 16 bits a channel. The stride is counted in values. */
+/* A mask: the fraction of a color or of a source that is composited at each point, from 0 (none) to
+ * 255 (all). It goes with all images. The stride is in values. */
 typedef struct { const uint8_t *values; uint32_t width, height, stride; } pix_matte;
+
+/* A mask from 0 to 65535. It goes with images of 16 bits a channel. */
 typedef struct { const uint16_t *values; uint32_t width, height, stride; } pix_matte16;
 
 /* ---- Operators, statuses ---- */
@@ -223,28 +228,31 @@ typedef enum {
 
 /* What a call returns. */
 typedef enum {
-    PIX_OK = 0,         /* done */
-    PIX_BAD_SIZE = 1,   /* the image: a side above 2147483647, a stride below the width, or more than memory can hold */
-    PIX_BAD_KIND = 2,   /* a command that no function of this header made */
-    PIX_BAD_REGION = 3, /* a region of a command has a side above 2147483647 */
-    PIX_BAD_OP = 4,     /* no such operator */
-    PIX_BAD_SOURCE = 5, /* the source, the matte or the mask of a command: as PIX_BAD_SIZE */
-    PIX_BAD_FORMAT = 6, /* no such format */
-    PIX_BAD_LENGTH = 7, /* more pixels, indices or commands than memory holds, or lengths that do not go
-                         * together */
-    PIX_NULL = 8,       /* a pointer is null, and what it points to is not empty */
-    PIX_OVERLAP = 9,    /* a source, a matte, the list of commands or `done` shares memory with what is written */
-    PIX_BAD_LIBRARY = 10, /* the archive that is linked has another version or another layout than this header */
-    PIX_BAD_TABLE = 11, /* a table has no entry, or more than 256 */
-    PIX_BAD_INDEX = 12, /* an index is past the end, or takes more bits than it is to have */
-    PIX_BAD_DEPTH = 13, /* indices take 1, 2, 4 or 8 bits */
-    PIX_FULL_TABLE = 14, /* a table has no room for a color */
-    PIX_BAD_STRENGTH = 15, /* errors are diffused with a strength of 0 to 16 */
-    PIX_NO_SIDE = 16,    /* a side of the source or of the new picture is 0 */
-    PIX_TOO_LARGE = 17,  /* a side of the source is above 65535, or the new picture has larger sides than its sums allow */
-    PIX_OUTSIDE = 18,    /* the window is not all in the new picture */
-    PIX_SMALL_WORK = 19, /* the work memory has fewer words than pix_scale_work says */
-    PIX_BAD_FILTER = 20  /* no such filter */
+    /* made by tools/names: statuses */
+    PIX_OK = 0,             /* done */
+    PIX_BAD_SIZE = 1,       /* the written image: a side above 2147483647, a stride below the width, or more pixels than
+                             * its memory has */
+    PIX_BAD_KIND = 2,       /* no such kind of command */
+    PIX_BAD_REGION = 3,     /* a region of a command has a side above 2147483647 */
+    PIX_BAD_OP = 4,         /* no such operator */
+    PIX_BAD_SOURCE = 5,     /* a source, a matte, a mask or a bitmap that is read: as PIX_BAD_SIZE */
+    PIX_BAD_FORMAT = 6,     /* no such format, or one that the call doesn't take */
+    PIX_BAD_LENGTH = 7,     /* more pixels, indices or commands than memory holds, or lengths that don't match */
+    PIX_NULL = 8,           /* a pointer is null, and its length is not 0 */
+    PIX_OVERLAP = 9,        /* a source, a matte, the list of commands or `done` shares memory with the written one */
+    PIX_BAD_LIBRARY = 10,   /* the archive that is linked has another version or another layout than this header */
+    PIX_BAD_TABLE = 11,     /* a table has no entry, or more than 256 */
+    PIX_BAD_INDEX = 12,     /* an index is past the end, or takes more bits than the depth has */
+    PIX_BAD_DEPTH = 13,     /* the depth of indices is not 1, 2, 4 or 8 bits */
+    PIX_FULL_TABLE = 14,    /* a table has no room for a color */
+    PIX_BAD_STRENGTH = 15,  /* the strength of error diffusion is above 16 */
+    PIX_NO_SIDE = 16,       /* a side of the source or of the new picture is 0 */
+    PIX_TOO_LARGE = 17,     /* a side of the source is above 65535, or the new picture has larger sides than its sums
+                             * allow */
+    PIX_OUTSIDE = 18,       /* the window is not all in the new picture */
+    PIX_SMALL_WORK = 19,    /* the work memory has fewer words than pix_scale_work says */
+    PIX_BAD_FILTER = 20     /* no such filter */
+    /* made by tools/names: end */
 } pix_status;
 
 /* A line of English that says what a status means. */
@@ -277,8 +285,10 @@ static inline pix_region pix_region_of(int32_t x, int32_t y, uint32_t width, uin
     return region;
 }
 
-/* Views of rows without padding. Set `stride` afterwards where there is some. */
+/* An image of rows without padding. Set `stride` afterwards if there is some. */
 static inline pix_image pix_image_of(pix_rgba8 *pixels, uint32_t width, uint32_t height);
+
+/* The same of pixels that are only read. */
 static inline pix_view pix_view_of(const pix_rgba8 *pixels, uint32_t width, uint32_t height);
 
 /* A mask with rows without padding. Set `stride` afterwards where they have some. */
@@ -308,14 +318,14 @@ static inline pix_view pix_view_of_image(pix_image image);
 /* What a command does. */
 typedef enum {
     /* made by tools/names: kinds */
-    PIX_KIND_CLEAR = 0,
-    PIX_KIND_COPY_COLOR = 1,
-    PIX_KIND_COPY_IMAGE = 2,
-    PIX_KIND_COMPOSITE_COLOR = 3,
-    PIX_KIND_COMPOSITE_IMAGE = 4,
-    PIX_KIND_COMPOSITE_MATTE = 5,
-    PIX_KIND_COMPOSITE_IMAGE_MATTE = 6,
-    PIX_KIND_COMPOSITE_IMAGE_ALPHA = 7
+    PIX_KIND_CLEAR = 0,                  /* all pixels of the image become clear */
+    PIX_KIND_COPY_COLOR = 1,             /* a color replaces pixels */
+    PIX_KIND_COPY_IMAGE = 2,             /* the pixels of a source replace others */
+    PIX_KIND_COMPOSITE_COLOR = 3,        /* a color is composited */
+    PIX_KIND_COMPOSITE_IMAGE = 4,        /* a source is composited */
+    PIX_KIND_COMPOSITE_MATTE = 5,        /* a color is composited through a matte */
+    PIX_KIND_COMPOSITE_IMAGE_MATTE = 6,  /* a source is composited through a mask */
+    PIX_KIND_COMPOSITE_IMAGE_ALPHA = 7   /* a source is composited at an opacity */
     /* made by tools/names: end */
 } pix_kind;
 
@@ -405,6 +415,11 @@ static inline pix_status pix_run(pix_image image, const pix_command *commands, s
  * overlaps see the window alone. No source, matte, list or `done` may be in another window of the
  * image while that is painted.
  *
+ *     pix_rgba8 pixels[16 * 16];
+ *     pix_image tile = pix_image_of(pixels, 16, 16);
+ *     pix_command red = pix_copy_color(pix_region_of(60, 60, 40, 40), pix_rgba8_of(200, 0, 0, 255));
+ *     pix_status status = pix_run_window(tile, 48, 48, &red, 1, NULL);
+ *
  * Returns what pix_run does, and PIX_BAD_SIZE too where left + width or top + height is above
  * 2147483647. */
 static inline pix_status pix_run_window(pix_image window, uint32_t left, uint32_t top, const pix_command *commands,
@@ -462,12 +477,16 @@ static inline pix_status pix_convert_bitmap(pix_bitmap_view src, pix_bitmap dst)
  */
 static inline pix_status pix_convert_in_place(pix_bitmap image, pix_format to);
 
-/* Views of rows without gaps. Set `stride` afterwards where there are some. */
+/* An image in any format, of rows without gaps. Set `stride` afterwards if there are some. */
 static inline pix_bitmap pix_bitmap_of(void *pixels, uint32_t width, uint32_t height, pix_format format);
+
+/* The same of bytes that are only read. */
 static inline pix_bitmap_view pix_bitmap_view_of(const void *pixels, uint32_t width, uint32_t height, pix_format format);
 
-/* The same image, to be read; and an image that commands paint, as a bitmap. */
+/* The same image, to be read. */
 static inline pix_bitmap_view pix_bitmap_view_of_bitmap(pix_bitmap image);
+
+/* An image that commands paint, as a bitmap of its format. */
 static inline pix_bitmap pix_bitmap_of_image(pix_image image);
 static inline pix_bitmap pix_bitmap_of_image_rgba16(pix_image_rgba16 image);
 static inline pix_bitmap pix_bitmap_of_image_graya8(pix_image_graya8 image);
@@ -485,6 +504,8 @@ static inline pix_graya8 pix_color_of_graya8(pix_format format, const void *pixe
 static inline pix_image pix_part_of(pix_image image, pix_region region);
 static inline pix_image_rgba16 pix_part_of_rgba16(pix_image_rgba16 image, pix_region region);
 static inline pix_image_graya8 pix_part_of_graya8(pix_image_graya8 image, pix_region region);
+
+/* The same part of a bitmap. */
 static inline pix_bitmap pix_part_of_bitmap(pix_bitmap image, pix_region region);
 
 /* Writes a pattern: the commands that composite the region `from` of a source over all of `to`. The
@@ -498,19 +519,26 @@ static inline uint64_t pix_repeat_image(pix_command *commands, uint64_t room, pi
 
 /* How a pixel of a picture at another size is made of those of the source. Columns and rows are
  * weighed apart, in whole numbers. A pixel is the sum of all products of pixels and weights, divided
- * by the sum of the weights. It is rounded once, to the nearest, ties up. */
+ * by the sum of the weights. It is rounded once, to the nearest, ties up. The last three have weights
+ * below 0: an alpha is cut at 0 and at the greatest channel, and a color at 0 and at the new alpha. A
+ * side that keeps its length is not filtered by them. */
 typedef enum {
     PIX_FILTER_NEAREST = 0, /* the pixel under its center: for sprites */
     PIX_FILTER_AREA = 1,    /* the mean of the area that it covers: for photographs, and for sharp enlarged pixels */
-    PIX_FILTER_LINEAR = 2   /* by the distance of centers, as far as one pixel, of the source or of the result: smooth */
+    PIX_FILTER_LINEAR = 2,  /* by the distance of centers, as far as one pixel, of the source or of the result: smooth */
+    PIX_FILTER_CATMULL_ROM = 3, /* a cubic as far as two pixels, with weights below 0: sharp */
+    PIX_FILTER_MITCHELL = 4,    /* such a cubic that is softer, with less of a rim around edges */
+    PIX_FILTER_LANCZOS = 5      /* a windowed sine as far as three pixels: the sharpest */
 } pix_filter;
 
-/* The sides of a picture, and a point of one. */
+/* The sides of a picture. */
 typedef struct { uint32_t width, height; } pix_size;
+
+/* A point of a picture, from its upper left corner. */
 typedef struct { uint32_t x, y; } pix_point;
 
-/* How many filters there are. A number from there on is refused. */
-#define PIX_FILTER_COUNT (PIX_FILTER_LINEAR + 1)
+/* How many filters there are. A number from there on is PIX_BAD_FILTER. */
+#define PIX_FILTER_COUNT (PIX_FILTER_LANCZOS + 1)
 
 /* Returns how many words of work memory pix_scale takes for a window of the size `to`, of a new
  * picture of `size`, made of one of the size `from`. It is 0 where pix_scale returns PIX_BAD_FILTER,
@@ -540,8 +568,9 @@ static inline size_t pix_scale_work(pix_size to, pix_size size, pix_size from, p
  * A premultiplied picture stays so. A side of the source is at most 65535. Both sides of an axis are
  * divided by their greatest common divisor first, which changes no pixel. The sum of an axis'
  * weights is then 1 (nearest) or the source's side (area). By PIX_FILTER_LINEAR it is twice the new
- * side, or 32768 if that is the smaller one. PIX_TOO_LARGE is for products of both sums above
- * 2147483647, and for products of the sum of the rows with the greatest channel above 4294967295.
+ * side if that is at least the source's, and otherwise 32768. By the last three filters it is 16384.
+ * PIX_TOO_LARGE is for products of both sums above 2147483647, and for products of the sum of the
+ * rows with the greatest channel above 4294967295.
  *
  * Returns PIX_OK, PIX_BAD_FILTER, PIX_NO_SIDE, PIX_TOO_LARGE, PIX_OUTSIDE, PIX_BAD_SIZE,
  * PIX_BAD_SOURCE, PIX_SMALL_WORK, PIX_BAD_LENGTH (more words than memory holds), PIX_NULL or
@@ -556,8 +585,10 @@ static inline pix_status pix_scale(pix_image to, pix_point at, pix_size size, pi
  * makes such pixels from others (PIX_FORMAT_SRGB8, PIX_FORMAT_SRGBA8). Written memory must not
  * overlap with read memory. A call that fails changes nothing. */
 
-/* A color of 8 bits a channel, and a pixel with an alpha. */
+/* A color of 8 bits a channel. */
 typedef struct { uint8_t r, g, b; } pix_srgb8;
+
+/* A color with an alpha, by which it isn't multiplied. */
 typedef struct { uint8_t r, g, b, a; } pix_srgba8;
 
 /* A table of `len` colors, from 1 to 256. */
@@ -582,21 +613,23 @@ static inline pix_status pix_map_indexed(pix_table table, const pix_srgb8 *pixel
 static inline pix_status pix_map_indexed_alpha(pix_table table, const pix_srgba8 *pixels, size_t count, uint8_t alpha,
                                                uint8_t transparent_index, uint8_t *indices);
 
-/* Return how many colors of work memory pix_quantize takes for `count` pixels, and
- * pix_diffuse_indexed for rows of `width` pixels. The second is SIZE_MAX where that is more than
- * memory holds. */
+/* Returns how many colors of work memory pix_quantize takes for `count` pixels. */
 static inline size_t pix_quantize_work(size_t count);
+
+/* Returns how many colors of work memory pix_diffuse_indexed takes for rows of `width` pixels, or
+ * SIZE_MAX if that is more than memory holds. */
 static inline size_t pix_diffuse_indexed_work(size_t width);
 
 /* How many rounds refine a table where a call doesn't say it. */
 enum { PIX_DEFAULT_ROUNDS = 6 };
 
 /* Writes a table of the colors of `count` pixels, of at most `len` entries, and writes into `made`
- * how many it has. Where there are no more distinct colors than `len`, they are the table, in
- * order of first place. Otherwise they are the means of boxes of colors, which six rounds then
- * refine. Boxes are split, always by the split that reduces the squared error most, and then those
- * pairs are merged that raise it least. Both are compared by quotients rounded down, so of nearly
- * equal ones another may be taken. The entries past `made` may hold anything. `work` has
+ * how many it has. Where there are no more distinct colors than `len`, they are the table, in order
+ * of first place. Otherwise, where all are grays, no table of at most `len` entries has a smaller
+ * squared error. Otherwise they are the means of boxes of colors, which six rounds then refine.
+ * Boxes are split, always by the split that reduces the squared error most, and then those pairs
+ * are merged that raise it least. Both are compared by quotients rounded down, so of nearly equal
+ * ones another may be taken. The entries past `made` may hold anything. `work` has
  * pix_quantize_work(count) colors; for a large picture pass a sample of its pixels. Returns PIX_OK,
  * PIX_BAD_TABLE (`len` is 0 or above 256), PIX_BAD_LENGTH, PIX_NULL or PIX_OVERLAP.
  *
@@ -613,14 +646,16 @@ static inline pix_status pix_quantize(const pix_srgb8 *pixels, size_t count, pix
 static inline pix_status pix_quantize_alpha(const pix_srgba8 *pixels, size_t count, uint8_t alpha, pix_srgb8 *work,
                                             pix_srgb8 *entries, size_t len, size_t *made);
 
-/* Write a table as pix_quantize and pix_quantize_alpha do, with another number of rounds. In a round
- * each color goes to its nearest entry, the first if several are equal. Each entry goes to the mean
- * of its colors, rounded, and stays where it has none. No round makes the sum of the squared errors
- * greater. A round takes about as long as pix_map_indexed of the distinct colors, so less than that
- * of the pixels where colors come again. PIX_DEFAULT_ROUNDS are enough for most pictures; without a
- * round a table is made sooner, and fits the picture less. */
+/* Writes a table as pix_quantize does, with another number of rounds. In a round each color goes to
+ * its nearest entry, the first if several are equal. Each entry goes to the mean of its colors,
+ * rounded, and stays if it has none. No round makes the sum of the squared errors greater, and none
+ * moves a table of grays. A round takes about as long as pix_map_indexed of the distinct colors, so
+ * less than that of the pixels if colors come again. PIX_DEFAULT_ROUNDS are enough for most
+ * pictures; without a round a table is made sooner, and fits the picture less. */
 static inline pix_status pix_quantize_refined(const pix_srgb8 *pixels, size_t count, uint8_t rounds, pix_srgb8 *work,
                                               pix_srgb8 *entries, size_t len, size_t *made);
+
+/* The same of pixels with an alpha, as pix_quantize_alpha. */
 static inline pix_status pix_quantize_refined_alpha(const pix_srgba8 *pixels, size_t count, uint8_t alpha, uint8_t rounds,
                                                     pix_srgb8 *work, pix_srgb8 *entries, size_t len, size_t *made);
 
@@ -641,7 +676,13 @@ static inline pix_status pix_quantize_refined_alpha(const pix_srgba8 *pixels, si
  *
  * So rows are whole: `count` is a multiple of `width`. `work` has pix_diffuse_indexed_work(width)
  * colors. Returns what pix_map_indexed does, and PIX_BAD_LENGTH too where `width` is 0 or more than
- * memory holds, or a row isn't whole. */
+ * memory holds, or a row isn't whole.
+ *
+ *     pix_srgb8 ends[2] = {{0, 0, 0}, {255, 255, 255}};
+ *     pix_srgb8 gray[4] = {{128, 128, 128}, {128, 128, 128}, {128, 128, 128}, {128, 128, 128}}, work[16];
+ *     uint8_t indices[4];
+ *     pix_status status = pix_diffuse_indexed(pix_table_of(ends, 2), gray, 4, 4, work, indices);
+ */
 static inline pix_status pix_diffuse_indexed(pix_table table, const pix_srgb8 *pixels, size_t count, size_t width,
                                              pix_srgb8 *work, uint8_t *indices);
 
@@ -664,12 +705,14 @@ typedef struct { uint8_t strength; bool serpentine; } pix_diffusion;
 /* The way of pix_diffuse_indexed and pix_diffuse_indexed_alpha: a strength of 12, and serpentine. */
 static inline pix_diffusion pix_default_diffusion(void);
 
-/* Write the index of each pixel, with error diffusion as `how` says. The target at a pixel is
- * rounded once, after its share is multiplied. Return PIX_BAD_STRENGTH too where the strength is
- * above 16, and PIX_BAD_LENGTH where `serpentine` rows are not whole: `count` is a multiple of
- * `width` then. Rows that all go one way may end in a part of one. */
+/* Writes the index of each pixel, with error diffusion as `how` says. The target at a pixel is
+ * rounded once, after its share is multiplied. Returns PIX_BAD_STRENGTH too if the strength is above
+ * 16, and PIX_BAD_LENGTH if `serpentine` rows are not whole: `count` is a multiple of `width` then.
+ * Rows that all go one way may end in a part of one. */
 static inline pix_status pix_diffuse_indexed_by(pix_table table, const pix_srgb8 *pixels, size_t count, size_t width,
                                                 pix_diffusion how, pix_srgb8 *work, uint8_t *indices);
+
+/* The same of pixels with an alpha, as pix_diffuse_indexed_alpha. */
 static inline pix_status pix_diffuse_indexed_by_alpha(pix_table table, const pix_srgba8 *pixels, size_t count, size_t width,
                                                       uint8_t alpha, uint8_t transparent_index, pix_diffusion how,
                                                       pix_srgb8 *work, uint8_t *indices);
@@ -683,6 +726,11 @@ static inline pix_status pix_diffuse_indexed_by_alpha(pix_table table, const pix
  * than `threshold` in each of red, green and blue. With a threshold of 0 it is the color itself. The
  * match is the last candidate. Entry 0 is the first candidate; each later entry replaces it that is
  * no worse in each channel and better in one.
+ *
+ *     pix_srgb8 colors[3] = {{9, 9, 9}, {200, 200, 200}, {11, 11, 11}}, near = {2, 2, 2}, entries[256];
+ *     uint8_t indices[3];
+ *     size_t used = 0;
+ *     pix_status status = pix_index_pixels(entries, 256, &used, near, colors, 3, indices);
  *
  * Returns PIX_OK, PIX_BAD_TABLE (`len` is 0 or above 256), PIX_BAD_LENGTH (too many pixels, or
  * `used` is above `len`), PIX_FULL_TABLE where there is no room for a color, PIX_NULL or
@@ -706,7 +754,11 @@ static inline size_t pix_row_size(uint32_t bits, size_t count);
 /* Packs a row of `count` indices into pix_row_size(bits, count) bytes, as PNG, BMP and TIFF have
  * them. The indices of a byte begin at its most significant bits. Bits that are left over in the
  * last byte are 0. Returns PIX_OK, PIX_BAD_DEPTH, PIX_BAD_INDEX where an index takes more bits,
- * PIX_BAD_LENGTH, PIX_NULL or PIX_OVERLAP. */
+ * PIX_BAD_LENGTH, PIX_NULL or PIX_OVERLAP.
+ *
+ *     uint8_t row[5] = {3, 0, 1, 2, 3}, packed[2];
+ *     pix_status status = pix_pack_row(2, row, 5, packed);
+ */
 static inline pix_status pix_pack_row(uint32_t bits, const uint8_t *indices, size_t count, uint8_t *bytes);
 
 /* Unpacks a row of `count` indices from pix_row_size(bits, count) bytes. Bits that are left over
@@ -757,7 +809,7 @@ static inline pix_status pix_look_up_rgba(pix_table_rgba table, const uint8_t *i
 
 /* ---- The other kinds of pixels ---- */
 
-/* Commands on the other kinds of images. Make them with functions too. */
+/* A command on an image of 16 bits a channel. Make it with functions too. */
 typedef struct {
     uint32_t kind, op;
     pix_region to, from;
@@ -771,6 +823,7 @@ typedef struct {
     const uint8_t *mattes8; size_t matte8_count;
 } pix_command_rgba16;
 
+/* A command on an image of gray and alpha. */
 typedef struct {
     uint32_t kind, op;
     pix_region to, from;
@@ -856,9 +909,13 @@ static inline pix_command_rgba16 pix_composite_image_matte8_rgba16(pix_region to
     X(XYZA16, Xyz) X(XYZA16P, Xyz) X(SRGBX8, Rgb) X(SBGRX8, Bgr) X(RGBX8, Rgb) X(BGRX8, Bgr)
 /* made by tools/names: end */
 
-/* How many there are. A number from there on is refused. */
+/* How many operators there are. A number from there on is PIX_BAD_OP. */
 #define PIX_OP_COUNT (0 PIX_EACH_OP(PIX_ONE_))
+
+/* How many kinds of commands there are. A number from there on is PIX_BAD_KIND. */
 #define PIX_KIND_COUNT (0 PIX_EACH_KIND(PIX_ONE_))
+
+/* How many formats there are. A number from there on is PIX_BAD_FORMAT. */
 #define PIX_FORMAT_COUNT (0 PIX_EACH_FORMAT(PIX_ONE_))
 #define PIX_ONE_(NAME, MORE) +1
 
@@ -873,77 +930,140 @@ static inline pix_command_rgba16 pix_composite_image_matte8_rgba16(pix_region to
  * passed. Lengths are counted in elements. `stride` is at least the width, and 0 does not stand for
  * it. `serpentine` is 0 where all rows go from left to right. */
 
+/* made by tools/names: calls */
+/* Returns fact number `index` of the library. The first is its version. The others are sizes and
+ * offsets in bytes, in the order of the facts of each binding. Past the last one it returns the
+ * greatest number of 32 bits. */
+uint32_t pix_layout(size_t index);
+
+/* Returns how many bytes a pixel of a format has, or 0 if there is no such format. */
+uint32_t pix_raw_format_size(uint32_t format);
+
+/* Runs all commands on a window of a picture, or none. `done` is their number, or the index of the
+ * bad one. The window's first pixel is the point (`left`, `top`) of the picture, so an image by
+ * itself is the window at (0, 0). */
 uint32_t pix_raw_run_window(pix_rgba8 *pixels, size_t pixel_count, uint32_t left, uint32_t top, uint32_t width,
                             uint32_t height, uint32_t stride, const pix_command *commands, size_t command_count,
                             size_t *done);
-uint32_t pix_raw_run_window_rgba16(pix_rgba16 *pixels, size_t pixel_count, uint32_t left, uint32_t top,
-                                   uint32_t width, uint32_t height, uint32_t stride,
-                                   const pix_command_rgba16 *commands, size_t command_count, size_t *done);
-uint32_t pix_raw_run_window_graya8(pix_graya8 *pixels, size_t pixel_count, uint32_t left, uint32_t top,
-                                   uint32_t width, uint32_t height, uint32_t stride,
-                                   const pix_command_graya8 *commands, size_t command_count, size_t *done);
+
+/* The same on pixels of 16 bits a channel. */
+uint32_t pix_raw_run_window_rgba16(pix_rgba16 *pixels, size_t pixel_count, uint32_t left, uint32_t top, uint32_t width,
+                                   uint32_t height, uint32_t stride, const pix_command_rgba16 *commands,
+                                   size_t command_count, size_t *done);
+
+/* The same on pixels of gray and alpha. */
+uint32_t pix_raw_run_window_graya8(pix_graya8 *pixels, size_t pixel_count, uint32_t left, uint32_t top, uint32_t width,
+                                   uint32_t height, uint32_t stride, const pix_command_graya8 *commands,
+                                   size_t command_count, size_t *done);
+
+/* Converts `count` pixels from a format to another one. */
 uint32_t pix_raw_convert(uint32_t from, uint32_t to, const uint8_t *src, size_t src_len, uint8_t *dst, size_t dst_len,
                          size_t count);
 
-/* Bitmaps: `src` and `dst` begin with the row that is lowest in memory, and have the bytes up to
- * the end of the row that is highest. Strides are counted in bytes, and 0 does not stand for the
- * width. A negative stride says that the first row in memory is the bottom one. */
-uint32_t pix_raw_convert_bitmap(uint32_t from, uint32_t to, const uint8_t *src, size_t src_len, uint8_t *dst, size_t dst_len,
-                                int64_t src_stride, int64_t dst_stride, uint32_t width, uint32_t height);
-uint32_t pix_raw_format_size(uint32_t format);
+/* Writes a bitmap from another of the same size, pixel by pixel. Strides are in bytes, and 0 does
+ * not stand for the width. Both buffers begin with the row that is lowest in memory, which is the
+ * bottom one if the stride is negative. They end with the last row's last pixel. */
+uint32_t pix_raw_convert_bitmap(uint32_t from, uint32_t to, const uint8_t *src, size_t src_len, uint8_t *dst,
+                                size_t dst_len, int64_t src_stride, int64_t dst_stride, uint32_t width,
+                                uint32_t height);
 
-/* Pictures at another size: `across` and `down` are the sides of the whole new picture, of which the
- * window at (left, top) is written. */
-uint32_t pix_raw_scale(pix_rgba8 *pixels, size_t pixel_count, uint32_t left, uint32_t top, uint32_t width, uint32_t height,
-                       uint32_t stride, uint32_t across, uint32_t down, const pix_rgba8 *source, size_t source_count,
-                       uint32_t source_width, uint32_t source_height, uint32_t source_stride, uint32_t filter,
-                       uint32_t *work, size_t work_count);
+/* Writes the window at (`left`, `top`) of a picture of `across` by `down` pixels that is made of a
+ * source. `work` is the memory for it, of at least as many words as pix_raw_scale_work says. */
+uint32_t pix_raw_scale(pix_rgba8 *pixels, size_t pixel_count, uint32_t left, uint32_t top, uint32_t width,
+                       uint32_t height, uint32_t stride, uint32_t across, uint32_t down, const pix_rgba8 *source,
+                       size_t source_count, uint32_t source_width, uint32_t source_height, uint32_t source_stride,
+                       uint32_t filter, uint32_t *work, size_t work_len);
+
+/* The same for pixels of 16 bits a channel. */
 uint32_t pix_raw_scale_rgba16(pix_rgba16 *pixels, size_t pixel_count, uint32_t left, uint32_t top, uint32_t width,
-                              uint32_t height, uint32_t stride, uint32_t across, uint32_t down, const pix_rgba16 *source,
-                              size_t source_count, uint32_t source_width, uint32_t source_height, uint32_t source_stride,
-                              uint32_t filter, uint32_t *work, size_t work_count);
+                              uint32_t height, uint32_t stride, uint32_t across, uint32_t down,
+                              const pix_rgba16 *source, size_t source_count, uint32_t source_width,
+                              uint32_t source_height, uint32_t source_stride, uint32_t filter, uint32_t *work,
+                              size_t work_len);
+
+/* The same for pixels of gray and alpha. */
 uint32_t pix_raw_scale_graya8(pix_graya8 *pixels, size_t pixel_count, uint32_t left, uint32_t top, uint32_t width,
-                              uint32_t height, uint32_t stride, uint32_t across, uint32_t down, const pix_graya8 *source,
-                              size_t source_count, uint32_t source_width, uint32_t source_height, uint32_t source_stride,
-                              uint32_t filter, uint32_t *work, size_t work_count);
+                              uint32_t height, uint32_t stride, uint32_t across, uint32_t down,
+                              const pix_graya8 *source, size_t source_count, uint32_t source_width,
+                              uint32_t source_height, uint32_t source_stride, uint32_t filter, uint32_t *work,
+                              size_t work_len);
+
+/* Sets `words` to how many words of work memory a window of `width` by `height` takes. Its pixels
+ * have so many channels, of 8 or 16 bits. */
 uint32_t pix_raw_scale_work(uint32_t width, uint32_t height, uint32_t across, uint32_t down, uint32_t source_width,
                             uint32_t source_height, uint32_t channels, uint32_t bits, uint32_t filter, uint64_t *words);
+
+/* Writes the index of the entry of a table that is nearest to a color. */
 uint32_t pix_raw_nearest(const pix_srgb8 *entries, size_t len, const pix_srgb8 *color, uint8_t *index);
+
+/* Writes the index of the nearest entry of each pixel. */
 uint32_t pix_raw_map_indexed(const pix_srgb8 *entries, size_t len, const pix_srgb8 *pixels, size_t pixel_count,
                              uint8_t *indices, size_t index_count);
+
+/* The same for pixels with an alpha: one below `alpha` gets the index `transparent_index`. If all
+ * are below, a table without an entry serves too. */
 uint32_t pix_raw_map_indexed_alpha(const pix_srgb8 *entries, size_t len, const pix_srgba8 *pixels, size_t pixel_count,
                                    uint8_t alpha, uint8_t transparent_index, uint8_t *indices, size_t index_count);
-uint32_t pix_raw_quantize_refined(const pix_srgb8 *pixels, size_t pixel_count, uint8_t rounds, pix_srgb8 *work, size_t work_len,
-                                  pix_srgb8 *entries, size_t len, size_t *made);
+
+/* Writes a table of the colors of pixels, refined by `rounds` rounds, and how many entries it
+ * has. */
+uint32_t pix_raw_quantize_refined(const pix_srgb8 *pixels, size_t pixel_count, uint8_t rounds, pix_srgb8 *work,
+                                  size_t work_len, pix_srgb8 *entries, size_t len, size_t *made);
+
+/* The same for pixels with an alpha: those below `alpha` are left out. */
 uint32_t pix_raw_quantize_refined_alpha(const pix_srgba8 *pixels, size_t pixel_count, uint8_t alpha, uint8_t rounds,
                                         pix_srgb8 *work, size_t work_len, pix_srgb8 *entries, size_t len, size_t *made);
+
+/* Writes the index of each pixel of rows of `width` by error diffusion, with `strength` sixteenths
+ * of each error. If `serpentine` isn't 0, every second row goes from right to left. */
 uint32_t pix_raw_diffuse_indexed_by(const pix_srgb8 *entries, size_t len, const pix_srgb8 *pixels, size_t pixel_count,
-                                    size_t width, uint8_t strength, uint8_t serpentine, pix_srgb8 *work, size_t work_len,
-                                    uint8_t *indices, size_t index_count);
-uint32_t pix_raw_diffuse_indexed_by_alpha(const pix_srgb8 *entries, size_t len, const pix_srgba8 *pixels, size_t pixel_count,
-                                          size_t width, uint8_t alpha, uint8_t transparent_index, uint8_t strength,
-                                          uint8_t serpentine, pix_srgb8 *work, size_t work_len, uint8_t *indices,
-                                          size_t index_count);
-uint32_t pix_raw_index_pixels(pix_srgb8 *entries, size_t len, size_t *used, const pix_srgb8 *threshold, const pix_srgb8 *pixels,
-                              size_t pixel_count, uint8_t *indices, size_t index_count);
+                                    size_t width, uint8_t strength, uint8_t serpentine, pix_srgb8 *work,
+                                    size_t work_len, uint8_t *indices, size_t index_count);
+
+/* The same for pixels with an alpha: one below `alpha` gets the index `transparent_index`, and
+ * passes on no error. If all are below, a table without an entry serves too. */
+uint32_t pix_raw_diffuse_indexed_by_alpha(const pix_srgb8 *entries, size_t len, const pix_srgba8 *pixels,
+                                          size_t pixel_count, size_t width, uint8_t alpha, uint8_t transparent_index,
+                                          uint8_t strength, uint8_t serpentine, pix_srgb8 *work, size_t work_len,
+                                          uint8_t *indices, size_t index_count);
+
+/* Sets the color of each pixel in a table, and writes its index and how many entries are used. */
+uint32_t pix_raw_index_pixels(pix_srgb8 *entries, size_t len, size_t *used, const pix_srgb8 *threshold,
+                              const pix_srgb8 *pixels, size_t pixel_count, uint8_t *indices, size_t index_count);
+
+/* Writes the entry of each index. */
 uint32_t pix_raw_look_up(const pix_srgb8 *entries, size_t len, const uint8_t *indices, size_t index_count,
                          pix_srgb8 *pixels, size_t pixel_count);
+
+/* Writes how often each number below the length of `counts` is among the indices. */
 uint32_t pix_raw_count_indices(const uint8_t *indices, size_t index_count, size_t *counts, size_t len);
+
+/* Packs a row of indices into bytes. */
 uint32_t pix_raw_pack_row(uint32_t bits, const uint8_t *indices, size_t index_count, uint8_t *bytes, size_t byte_count);
-uint32_t pix_raw_unpack_row(uint32_t bits, const uint8_t *bytes, size_t byte_count, uint8_t *indices, size_t index_count);
-uint32_t pix_raw_quantize_rgba(const pix_srgba8 *pixels, size_t pixel_count, uint8_t rounds, pix_srgba8 *work, size_t work_len,
-                               pix_srgba8 *entries, size_t len, size_t *made);
+
+/* Unpacks a row of indices from bytes. */
+uint32_t pix_raw_unpack_row(uint32_t bits, const uint8_t *bytes, size_t byte_count, uint8_t *indices,
+                            size_t index_count);
+
+/* Writes a table of the colors of pixels, with their alphas, refined by `rounds` rounds, and how
+ * many entries it has. */
+uint32_t pix_raw_quantize_rgba(const pix_srgba8 *pixels, size_t pixel_count, uint8_t rounds, pix_srgba8 *work,
+                               size_t work_len, pix_srgba8 *entries, size_t len, size_t *made);
+
+/* Writes the index of the entry that looks nearest to each pixel. */
 uint32_t pix_raw_map_indexed_rgba(const pix_srgba8 *entries, size_t len, const pix_srgba8 *pixels, size_t pixel_count,
                                   uint8_t *indices, size_t index_count);
-uint32_t pix_raw_diffuse_indexed_rgba(const pix_srgba8 *entries, size_t len, const pix_srgba8 *pixels, size_t pixel_count,
-                                      size_t width, uint8_t strength, uint8_t serpentine, pix_srgba8 *work, size_t work_len,
-                                      uint8_t *indices, size_t index_count);
+
+/* Writes the index of each pixel of rows of `width` by error diffusion, as
+ * pix_raw_diffuse_indexed_by does. */
+uint32_t pix_raw_diffuse_indexed_rgba(const pix_srgba8 *entries, size_t len, const pix_srgba8 *pixels,
+                                      size_t pixel_count, size_t width, uint8_t strength, uint8_t serpentine,
+                                      pix_srgba8 *work, size_t work_len, uint8_t *indices, size_t index_count);
+
+/* Writes the entry of each index. */
 uint32_t pix_raw_look_up_rgba(const pix_srgba8 *entries, size_t len, const uint8_t *indices, size_t index_count,
                               pix_srgba8 *pixels, size_t pixel_count);
-
-/* Fact number `index` of the library. The first is its version; the sizes and offsets of PIX_FACTS_
- * in bytes follow, in that order. Past the last one it is UINT32_MAX. */
-uint32_t pix_layout(size_t index);
+/* made by tools/names: end */
 
 /* The version of the binary interface. It changes where a call, a number or a layout changes; a
  * program that was compiled with an older header then does not run. It is the number in the soname,
@@ -1087,6 +1207,7 @@ static inline pix_status pix_test_(const pix_memory_ *memory, size_t written, si
 /* Decides: the text of a status. */
 static inline const char *pix_status_text(pix_status status) {
     switch (status) {
+    /* made by tools/names: texts */
     case PIX_OK: return "done";
     case PIX_BAD_SIZE: return "the image has a side above 2147483647, a stride below its width, or too many pixels";
     case PIX_BAD_KIND: return "no such kind of command";
@@ -1108,6 +1229,7 @@ static inline const char *pix_status_text(pix_status status) {
     case PIX_OUTSIDE: return "the window is not all in the new picture";
     case PIX_SMALL_WORK: return "the work memory is too small";
     case PIX_BAD_FILTER: return "no such filter";
+    /* made by tools/names: end */
     }
     return "no such status";
 }

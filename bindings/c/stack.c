@@ -249,6 +249,8 @@ static pix_status refine(void) {
     static pix_srgb8 made[ENTRIES];
     size_t len = 0;
     pix_status status = pix_quantize_refined(grays, ENTRIES, 2, work, made, ENTRIES, &len);
+    if (status == PIX_OK)
+        status = pix_quantize_refined(grays, ENTRIES, 2, work, made, ENTRIES - 1, &len);
     for (size_t room = 1; room <= ENTRIES && status == PIX_OK; room *= 16)
         status = pix_quantize_refined(colors, COUNT, 2, work, made, room, &len);
     for (size_t room = 1; room <= ENTRIES && status == PIX_OK; room *= 16)

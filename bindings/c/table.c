@@ -89,6 +89,22 @@ static void made(size_t count, size_t room, unsigned levels) {
     check(got == want && !memcmp(entries, plain, want * sizeof *plain), "a table of pixels with an alpha is another one");
 }
 
+/* A table of grays has the least squared error, whatever the rounds. Of those with the same error it may be any. */
+static void made_of_grays(size_t count, size_t room, unsigned levels) {
+    pix_srgb8 entries[ROOM], plain[ROOM];
+    size_t got = 999, want, i;
+    for (i = 0; i < count; i++) {
+        pixels[i] = random_color(levels);
+        pixels[i].g = pixels[i].b = pixels[i].r;
+    }
+    want = plain_table(pixels, count, plain, room);
+    check(pix_quantize_refined(pixels, count, 0, work, entries, room, &got) == PIX_OK, "a table of grays is made");
+    check(got && got <= room, "a table of grays has too many entries");
+    check(plain_error(entries, got, pixels, count) == plain_error(plain, want, pixels, count), "another table of grays is better");
+    check(pix_quantize_refined(pixels, count, 3, work, plain, room, &want) == PIX_OK, "a table of grays after rounds");
+    check(got == want && !memcmp(entries, plain, want * sizeof *plain), "rounds move a table of grays");
+}
+
 /* A call without rounds refines by six. */
 static void made_by_default(size_t count, size_t room) {
     pix_srgb8 entries[ROOM], plain[ROOM];
@@ -503,6 +519,8 @@ int main(void) {
     for (i = 1; i < 100; i += 9)
         made_by_default(i * 30, i);
     made(3, 3, 2);
+    for (i = 1; i < 40; i++)
+        made_of_grays(i * 37, 1 + i * i % 60, levels[i % 3]);
     for (i = 0; i < 40; i++)
         refined(i < 15 ? i : i * 23, i % 3 ? 1 + i * 2 : 1 + i % 7, levels[i % 3]);
     for (i = 0; i < sizeof lengths / sizeof *lengths; i++)

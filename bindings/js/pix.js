@@ -161,7 +161,7 @@ export class Pix extends Memory {
         }
     }
 
-    // Converts pixels without strides between two of the twelve formats of 8 bits, or between any two.
+    // Converts pixels without strides from one format to another.
     convert(from, to, pixels) {
         const width = bytesOf(pixels).length / this.formatSize(from);
         return this.converted({ data: pixels, width: whole(width, 'the number of pixels', MOST), height: 1, format: formatOf(from) }, formatOf(to));

@@ -66,7 +66,8 @@ export function nearest(table, color) {
     return index[0];
 }
 
-// Makes a table of at most `length` colors of the pixels; so many `rounds` refine it. Pixels with an alpha below `alpha` don't count.
+// Makes a table of at most `length` colors of the pixels; so many `rounds` refine it. Of grays it has the least squared error, whatever
+// the rounds. Pixels with an alpha below `alpha` don't count.
 export function quantize(pixels, length = ENTRIES, { format = 'SRGB8', alpha = 0, rounds = ROUNDS } = {}) {
     const size = sizeOf(format), from = read(pixels, size, 'the array of pixels');
     const numbers = [...(size === 4 ? [byte(alpha, 'alpha')] : []), byte(rounds, 'rounds')];

@@ -6,7 +6,7 @@ export const MOST = 2147483647;
 // The operators and the formats, by their names.
 export const Op = Object.freeze(Object.fromEntries(OPERATORS.map(({ name }, number) => [name, number])));
 export const Format = Object.freeze({ ...FORMATS });
-// The filters of pictures at another size: Nearest, Area, Linear.
+// The filters of pictures at another size: Nearest, Area, Linear, CatmullRom, Mitchell, Lanczos.
 export const Filter = Object.freeze(Object.fromEntries(Object.entries(FILTERS).map(([name, number]) =>
     [name.toLowerCase().replace(/(?:^|_)(.)/g, (_, letter) => letter.toUpperCase()), number])));
 // The kinds of pixels: bytes and channels of a pixel, the greatest channel, the format, and the suffix of its calls.
@@ -18,9 +18,13 @@ export const RGBA8 = typeOf('RGBA8', 4, 255, '');
 export const RGBA16 = typeOf('RGBA16', 4, 65535, '_rgba16');
 export const GRAYA8 = typeOf('GRAYA8', 2, 255, '_graya8');
 export const TYPES = [RGBA8, RGBA16, GRAYA8];
-export const STATUS = ['OK', 'BAD_SIZE', 'BAD_KIND', 'BAD_REGION', 'BAD_OP', 'BAD_SOURCE', 'BAD_FORMAT', 'BAD_LENGTH', 'NULL', 'OVERLAP',
+// made by tools/names: statuses
+export const STATUS = [
+    'OK', 'BAD_SIZE', 'BAD_KIND', 'BAD_REGION', 'BAD_OP', 'BAD_SOURCE', 'BAD_FORMAT', 'BAD_LENGTH', 'NULL', 'OVERLAP',
     'BAD_LIBRARY', 'BAD_TABLE', 'BAD_INDEX', 'BAD_DEPTH', 'FULL_TABLE', 'BAD_STRENGTH', 'NO_SIDE', 'TOO_LARGE', 'OUTSIDE',
-    'SMALL_WORK', 'BAD_FILTER'];
+    'SMALL_WORK', 'BAD_FILTER',
+];
+// made by tools/names: end
 
 // An error of the library: `status` is the name of its status, and `index` the place of the bad command.
 export class PixError extends Error {

@@ -79,7 +79,7 @@ def draw_by_tiles(picture, commands):
 
 
 def main(lake):
-    """Paints the six pictures."""
+    """Paints the pictures."""
     ball = new_ball()
 
     picture = new_sky()
@@ -104,6 +104,9 @@ def main(lake):
     photo = pix.Image.open(lake)
     glaze(photo)
     photo.save("light.ppm")
+
+    photo = pix.Image.open(lake)
+    photo.scaled(64, 40).save("thumbnail.ppm")
 
     table, indices = index_picture(pix.Image.open(lake))
     shown = pix.look_up(table, indices)

@@ -3,13 +3,16 @@
     python3 scaled_model.py [CASES [SEED]]
 
 Each case is a picture of sides up to 70, of one kind of pixels, and a window of it at another size, by one filter. The
-weights come from the definition, over all places of a side, and each channel is the exact double sum, rounded once. Some
+weights come from the definition, over all places of a side, and each channel is the exact double sum, rounded once. By weights
+below 0 an alpha is cut at its ends, and a color at the new alpha; their values come from polynomials and from sines. Some
 new pictures are as large as the sums allow. With Pillow, LINEAR is compared with its BILINEAR too, which rounds twice: no
 byte may be more than 1 from it. CASES is 3000 and SEED 1 where they aren't given. The status is 1 if a pixel differs.
 """
 
+import math
 import random
 import sys
+from fractions import Fraction
 
 import pix
 from pix import Filter
@@ -19,7 +22,7 @@ try:
 except ImportError:
     pillow = None
 
-SIDE, ONE = 70, 1 << 15
+SIDE, ONE, SIGNED = 70, 1 << 15, 1 << 14
 # Each kind of pixels: channels, the greatest one, and the code of its numbers in memory.
 KINDS = {pix.RGBA8: (4, 255, "B"), pix.RGBA16: (4, 65535, "H"), pix.GRAYA8: (2, 255, "B")}
 
@@ -58,7 +61,61 @@ def whole_of(weights):
     return [end - start for start, end in zip(parts, parts[1:])]
 
 
-WEIGHTS = {Filter.NEAREST: nearest, Filter.AREA: area, Filter.LINEAR: linear}
+def catmull_rom(x):
+    """The cubic of Catmull and Rom."""
+    return (3 * x**3 - 5 * x**2 + 2) / 2 if x < 1 else (-(x**3) + 5 * x**2 - 8 * x + 4) / 2
+
+
+def mitchell(x):
+    """The cubic of Mitchell and Netravali, with B and C a third."""
+    return (21 * x**3 - 36 * x**2 + 16) / 18 if x < 1 else (-7 * x**3 + 36 * x**2 - 60 * x + 32) / 18
+
+
+def lanczos(x):
+    """The windowed sine, up to three places."""
+    return math.sin(math.pi * x) * math.sin(math.pi * x / 3) * 3 / (math.pi * x) ** 2 if x else 1
+
+
+def values_of(curve, reach):
+    """The values of a curve at 64ths of a place, in 2^14ths, rounded to the nearest, and 0 at its end."""
+    return [math.floor(SIGNED * curve(Fraction(k, 64)) + Fraction(1, 2)) for k in range(64 * reach)] + [0] * 321
+
+
+def signed(curve, reach):
+    """The weights by a curve with values below 0."""
+    values = values_of(curve, reach)
+
+    def weights(n, m, i):
+        common = math.gcd(n, m)
+        old, new = n // common, m // common
+        wide, near = max(old, new), (2 * i + 1) * old // (2 * new)
+        count = min(n, 2 * reach * wide // new + 1)
+        if n != m:
+            first = min(n - count, max(0, (2 * i + 1) * old + new - 2 * reach * wide) // (2 * new))
+            found = []
+            for j in range(first, first + count):
+                k, part = divmod(min(center_distance(old, new, i, j), 8 * wide) * 32768 // wide, 1024)
+                found.append(values[k] * (1024 - part) + values[k + 1] * part)
+            plus, minus = [max(0, value) for value in found], [max(0, -value) for value in found]
+            whole = sum(plus) - sum(minus)
+            steps = [parts_of(of, whole) for of in (plus, minus)]
+            if whole > 0 and sum(steps[1]) < SIGNED // 2:
+                return [0] * first + [more - less for more, less in zip(*steps)] + [0] * (n - first - count)
+        return [SIGNED * (j == near) for j in range(n)]
+
+    return weights
+
+
+def parts_of(weights, whole):
+    """The steps of the parts that weights have of a whole, in 2^14ths, rounded as they add up."""
+    ends = [(2 * SIGNED * sum(weights[:count]) + whole) // (2 * whole) for count in range(len(weights) + 1)]
+    return [end - start for start, end in zip(ends, ends[1:])]
+
+
+WEIGHTS = {
+    Filter.NEAREST: nearest, Filter.AREA: area, Filter.LINEAR: linear, Filter.CATMULL_ROM: signed(catmull_rom, 2),
+    Filter.MITCHELL: signed(mitchell, 2), Filter.LANCZOS: signed(lanczos, 3),
+}  # fmt: skip
 
 
 def counted(filter, n, m, i):
@@ -81,10 +138,13 @@ def window_of(source, sides, channels, limit, filter, size, window):
             for at in range(wide * channels)
         ]
         for column in columns:
-            whole = total(column) * total(rows)
-            for c in range(channels):
+            whole, most, pixel = total(column) * total(rows), limit, []
+            for c in reversed(range(channels)):
                 exact = sum(weight * flat[u * channels + c] for u, weight in column)
-                made.append(min(limit, max(0, (2 * exact + whole) // (2 * whole))))
+                pixel.append(min(most, max(0, (2 * exact + whole) // (2 * whole))))
+                if filter >= Filter.CATMULL_ROM:
+                    most = pixel[0]
+            made.extend(reversed(pixel))
     return made
 
 

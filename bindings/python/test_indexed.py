@@ -69,6 +69,22 @@ def mean(box):
     return tuple((2 * sum(channel) + len(box)) // (2 * len(box)) for channel in zip(*box))
 
 
+def least_error(levels, room):
+    """The least sum of squared errors of levels of gray that are shown by so many of them, or fewer."""
+    levels = sorted(levels)
+    least = [0] + [float("inf")] * len(levels)
+    for _ in range(room):
+        least = [0] + [
+            min(least[start] + span_error(levels[start:end]) for start in range(end)) for end in range(1, len(levels) + 1)
+        ]
+    return least[-1]
+
+
+def span_error(levels):
+    """The sum of the squared errors of levels that are shown by the best of all levels."""
+    return min(sum((level - entry) ** 2 for level in levels) for entry in range(levels[0], levels[-1] + 1))
+
+
 def plain_round(colors, table):
     """Each entry goes to the mean of the colors to which it is the nearest, and stays where it has none."""
     groups = [[] for _ in table]
@@ -260,15 +276,28 @@ class Tables(unittest.TestCase):
         for _ in range(40):
             levels, room = chance.choice([2, 3, 9, 256]), chance.randrange(1, 12)
             step, count = 255 // (levels - 1), chance.randrange(1, 40)
-            colors = [tuple(step * chance.randrange(levels) for _ in range(3)) for _ in range(count)]
+            colors = [(255, 0, 0), *(tuple(step * chance.randrange(levels) for _ in range(3)) for _ in range(count))]
             self.assertEqual(pix.quantize(joined(colors), room, rounds=0), joined(plain_table(colors, room)))
+
+    def test_grays(self):
+        """Of grays the table has the least squared error, whatever the rounds."""
+        chance = random.Random(12)
+        for _ in range(60):
+            levels, room = chance.choice([3, 20, 256]), chance.randrange(1, 9)
+            grays = [chance.randrange(levels) for _ in range(chance.randrange(1, 30))]
+            colors = [(gray, gray, gray) for gray in grays]
+            tables = [pix.quantize(joined(colors), room, rounds=rounds) for rounds in (0, 6)]
+            self.assertEqual(tables[0], tables[1])
+            table = [tuple(tables[0][i : i + 3]) for i in range(0, len(tables[0]), 3)]
+            self.assertLessEqual(len(table), room)
+            self.assertEqual(squared_error(table, colors), 3 * least_error(grays, room))
 
     def test_refined(self):
         chance = random.Random(5)
         for _ in range(40):
             levels, room = chance.choice([2, 3, 9, 256]), chance.randrange(1, 12)
             step, count = 255 // (levels - 1), chance.randrange(1, 40)
-            colors = [tuple(step * chance.randrange(levels) for _ in range(3)) for _ in range(count)]
+            colors = [(255, 0, 0), *(tuple(step * chance.randrange(levels) for _ in range(3)) for _ in range(count))]
             clear = joined((*color, 128) for color in colors) + joined((*color, 127) for color in colors[:3])
             plain, error = plain_table(colors, room), None
             for rounds in range(5):

@@ -41,7 +41,7 @@ if have musl musl-gcc python3; then
     step 'musl: 2,000 random lists' over_musl fuzz 2000
     step 'musl: each call in a thread of the stack that it needs' over_musl stack
     have 'musl: the shared library as it is packed' gcc readelf && step 'musl: the shared library as it is packed' musl_shared
-    if step 'musl: pixpaint as a shell runs it' musl_program && [ "$(uname -m)" = x86_64 ]; then
+    if are_of_these 'musl: pixpaint as a shell runs it' && step 'musl: pixpaint as a shell runs it' musl_program && [ "$(uname -m)" = x86_64 ]; then
         have 'musl: pixpaint on a processor that lacks what it needs' qemu-x86_64 && step 'musl: pixpaint on a processor that lacks what it needs' musl_narrow
     fi
     have 'musl: CMake' cmake ctest && step 'musl: CMake' musl_cmake

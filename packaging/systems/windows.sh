@@ -108,7 +108,7 @@ elif have Windows "$mingw-gcc" cmake ninja cc python3; then
         done
         step 'Windows: 20,000 random lists, with the bytes of the build for Linux' fuzzed
         step 'Windows: each call over the stack that it needs' runs stack
-        step 'Windows: pixpaint as a shell runs it' cases
+        are_of_these 'Windows: pixpaint as a shell runs it' && step 'Windows: pixpaint as a shell runs it' cases
         step 'Windows: pixpaint on a processor that lacks what it needs' narrow
         step 'Windows: the wheel' wheel
         have "Windows: Rust's build script" rustc clang llvm-ar && step "Windows: Rust's build script" rust_script

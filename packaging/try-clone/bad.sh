@@ -98,7 +98,7 @@ stale() {
 touched() {
     local file
     fresh touched && cd "$work/touched" || return
-    for file in generated/*.s generated/pix_c.wasm generated/built.json generated/facts.js; do
+    for file in generated/*.s generated/pix_c.wasm generated/built.json; do
         [ -f "$file" ] || continue
         cp "$file" "$work/whole" && "$python" - "$file" <<'END' || return
 import sys
@@ -111,6 +111,7 @@ END
         refuses 1 "$file is not the file that generated/SHA256SUMS lists" tools/generate --sums && refuses 1 FAILED sh -c 'cd generated && sha256sum -c --quiet SHA256SUMS' || return
         cp "$work/whole" "$file" || return
     done
+    echo >>bindings/js/facts.js && refuses 1 'bindings/js/facts.js was made of another' tools/generate --sums && git checkout -q bindings/js/facts.js || return
     rm "$file" && refuses 1 "$(basename "$file")" tools/generate --sums && cp "$work/whole" "$file" && touch generated/more.s \
         && refuses 1 'generated/more.s is not the file' tools/generate --sums && rm generated/more.s && echo 9.9.9 >VERSION && refuses 1 'VERSION says 9.9.9' tools/generate --sums
 }

@@ -3,8 +3,8 @@
 import { OPERATORS } from '../../bindings/js/facts.js';
 
 const MAX = 255n;
-const READS = { Zero: 0, One: 0, Alpha: 1, OneMinusAlpha: 1 };
-const ENTERS = { Zero: 0, One: 1, Alpha: 1, OneMinusAlpha: 1 };
+const READS = { Zero: 0, One: 0, OtherAlpha: 1, OneMinusAlpha: 1 };
+const ENTERS = { Zero: 0, One: 1, OtherAlpha: 1, OneMinusAlpha: 1 };
 
 // An effect is what one command does to a pixel: { op, source }, or { source } where it is replaced.
 
@@ -16,7 +16,7 @@ function weight(coefficient, whole, alpha) {
     switch (coefficient) {
     case 'Zero': return 0n;
     case 'One': return whole;
-    case 'Alpha': return alpha;
+    case 'OtherAlpha': return alpha;
     default: return whole - alpha;
     }
 }

@@ -20,6 +20,9 @@ function middle(side, room) {
     return { first: Math.floor((side - count) / 2), count, edge: Math.floor((room - count) / 2) };
 }
 
+// The size in percent, by the place of the slider: ten steps double it, so that one step is as much to the eye everywhere.
+const percentOf = (place) => Math.round(100 * 2 ** (place / 10));
+
 // Shows the middle of the picture at a size on a canvas, at the pixels that the screen has there.
 function drawOn(picture, filter, canvas, percent) {
     const size = sizeOf(canvas);
@@ -36,10 +39,11 @@ function drawOn(picture, filter, canvas, percent) {
 
 // Shows the picture, by an instance of the library of its own.
 export async function showSizes(library) {
-    const picture = await decoded(library.pix, element('triangle'));
+    const picture = await decoded(library.pix, element('leaf'));
     const draw = () => {
-        const percent = Number(element('size').value);
-        element('size-said').textContent = `${percent} %`;
+        const percent = percentOf(Number(element('size').value)), said = `${percent} %`;
+        element('size-said').textContent = said;
+        element('size').setAttribute('aria-valuetext', said);
         for (const filter of FILTERS) drawOn(picture, filter, canvasOf(filter), percent);
     };
     element('sizes').addEventListener('input', onceAFrame(draw));

@@ -114,6 +114,6 @@ export function onceAFrame(draw) {
 // The formula of an operator: s and d are a channel of source and destination, sa and da the alphas as fractions.
 export function formula({ source, dest }) {
     const term = (side, coefficient, alpha) =>
-        ({ Zero: '', One: side, Alpha: `${side}·${alpha}`, OneMinusAlpha: `${side}·(1−${alpha})` })[coefficient];
+        ({ Zero: '', One: side, OtherAlpha: `${side}·${alpha}`, OneMinusAlpha: `${side}·(1−${alpha})` })[coefficient];
     return [term('s', source, 'da'), term('d', dest, 'sa')].filter((part) => part).join(' + ') || '0';
 }

@@ -7,16 +7,35 @@
 
 /* A call that the host sees. */
 #define SHOWN_(name) extern __typeof__(name) name __attribute__((export_name(#name)))
+/* made by tools/names: calls */
 SHOWN_(pix_layout);
+SHOWN_(pix_raw_format_size);
 SHOWN_(pix_raw_run_window);
 SHOWN_(pix_raw_run_window_rgba16);
+SHOWN_(pix_raw_run_window_graya8);
 SHOWN_(pix_raw_convert);
 SHOWN_(pix_raw_convert_bitmap);
-SHOWN_(pix_raw_format_size);
 SHOWN_(pix_raw_scale);
 SHOWN_(pix_raw_scale_rgba16);
 SHOWN_(pix_raw_scale_graya8);
 SHOWN_(pix_raw_scale_work);
+SHOWN_(pix_raw_nearest);
+SHOWN_(pix_raw_map_indexed);
+SHOWN_(pix_raw_map_indexed_alpha);
+SHOWN_(pix_raw_quantize_refined);
+SHOWN_(pix_raw_quantize_refined_alpha);
+SHOWN_(pix_raw_diffuse_indexed_by);
+SHOWN_(pix_raw_diffuse_indexed_by_alpha);
+SHOWN_(pix_raw_index_pixels);
+SHOWN_(pix_raw_look_up);
+SHOWN_(pix_raw_count_indices);
+SHOWN_(pix_raw_pack_row);
+SHOWN_(pix_raw_unpack_row);
+SHOWN_(pix_raw_quantize_rgba);
+SHOWN_(pix_raw_map_indexed_rgba);
+SHOWN_(pix_raw_diffuse_indexed_rgba);
+SHOWN_(pix_raw_look_up_rgba);
+/* made by tools/names: end */
 
 #include "other.c"
 

@@ -140,15 +140,16 @@ def quantize(
 ) -> bytearray:
     """Makes a table of at most `length` colors of the pixels, three bytes each: red, green and blue in sRGB.
 
-    The pixels are of the format SRGB8, or of SRGBA8; pixels with an alpha below `alpha` don't count. If there are at most `length`
-    distinct colors, they are the table, in order of first place. Otherwise, the colors are split into boxes, always by the split
-    that reduces the squared error most. Then the pairs of boxes that raise it least are merged, and the entries are the means of
-    the boxes. Errors are compared by quotients rounded down, so of nearly equal ones another may be chosen. It allocates work
-    memory of three bytes a pixel; for a large picture pass a sample, such as every tenth pixel.
+    The pixels are of the format SRGB8, or of SRGBA8; pixels with an alpha below `alpha` don't count. If there are at most
+    `length` distinct colors, they are the table, in order of first place. Otherwise, if all are grays, no table of at most
+    `length` colors has a smaller squared error. Otherwise, the colors are split into boxes, always by the split that reduces the
+    squared error most. Then the pairs of boxes that raise it least are merged, and the entries are the means of the boxes. Errors
+    are compared by quotients rounded down, so of nearly equal ones another may be chosen. It allocates work memory of three bytes
+    a pixel; for a large picture pass a sample, such as every tenth pixel.
 
-    `rounds`, 0 to 255, is how often such means are then refined: six times, unless it says another number. In a round each color
-    goes to its nearest entry, the first if several are equal. Each entry goes to the mean of its colors, rounded, and stays if it
-    has none. No round makes the sum of the squared errors greater.
+    `rounds`, 0 to 255, is how often such means of boxes are then refined: six times, unless it says another number. In a round
+    each color goes to its nearest entry, the first if several are equal. Each entry goes to the mean of its colors, rounded, and
+    stays if it has none. No round makes the sum of the squared errors greater.
 
     The table is empty if no pixel counts. Raises PixError if `length` is not from 1 to 256, or the pixels don't fit.
 
@@ -181,7 +182,8 @@ def diffuse_indexed(
     strength: SupportsIndex = _STRENGTH,
     serpentine: bool = True,
 ) -> Any:
-    """Does what `map_indexed` does, for a picture of rows of `width` pixels, by error diffusion.
+    """Writes the index of an entry for each pixel of a picture of rows of `width` pixels, by error diffusion. Returns `indices`,
+    without which it makes a bytearray. Pixels, alphas and indices are those of map_indexed().
 
     The error of a pixel is its target color less its entry. 7/16 of it go to the pixel on the right, 3/16 to the one below on the
     left, 5/16 to the one below, and 1/16 to the one below on the right (Floyd and Steinberg). The target is a whole number in each
@@ -266,7 +268,8 @@ def diffuse_indexed_rgba(
     strength: SupportsIndex = _STRENGTH,
     serpentine: bool = True,
 ) -> Any:
-    """Does what `map_indexed_rgba` does, for a picture of rows of `width` pixels, by error diffusion.
+    """Writes the index of an entry for each pixel of a picture of rows of `width` pixels, by error diffusion to a table of colors
+    with an alpha. Returns `indices`, without which it makes a bytearray.
 
     Errors in the alpha, and in the colors multiplied by it, are passed on like the errors of diffuse_indexed(). A transparent pixel
     takes no errors and passes on none.
@@ -332,7 +335,10 @@ def look_up(table: Buffer, indices: Buffer, pixels: Any = None) -> Any:
 
 
 def look_up_rgba(table: Buffer, indices: Buffer, pixels: Any = None) -> Any:
-    """Does what `look_up` does, with a table of colors with an alpha, of four bytes each.
+    """Writes the entry of `table` for each index, four bytes each: a color with its alpha. Returns `pixels`, without which it makes
+    a bytearray.
+
+    Raises PixError if an index is past the end of the table, or the lengths don't fit, and leaves `pixels` as they were.
 
     >>> pix.look_up_rgba(bytes([0, 0, 0, 0, 255, 0, 0, 255]), bytes([1, 0])).hex(" ", 4)
     'ff0000ff 00000000'

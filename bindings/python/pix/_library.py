@@ -21,19 +21,18 @@ LONG = 500_000
 #
 # The others are numbers; `own` is memory that nobody else knows, and `count` a number there.
 PER_COMMAND = 64
-_RUN = "u32 u32 u32 u32 u32 own size count"
-_SCALE = "u32 u32 u32 u32 u32 u32 u32 read:{} u32 u32 u32 u32 own size"
 CALLS = {
+    # made by tools/names: calls
     "pix_layout": (0, "size"),
     "pix_raw_format_size": (0, "u32"),
-    "pix_raw_run_window": (2, f"image:4 {_RUN}"),
-    "pix_raw_run_window_rgba16": (4, f"image:8 {_RUN}"),
-    "pix_raw_run_window_graya8": (1, f"image:2 {_RUN}"),
+    "pix_raw_run_window": (2, "image:4 u32 u32 u32 u32 u32 own size count"),
+    "pix_raw_run_window_rgba16": (4, "image:8 u32 u32 u32 u32 u32 own size count"),
+    "pix_raw_run_window_graya8": (1, "image:2 u32 u32 u32 u32 u32 own size count"),
     "pix_raw_convert": (16, "u32 u32 read:1 write:1 size"),
     "pix_raw_convert_bitmap": (96, "u32 u32 read:1 write:1 i64 i64 u32 u32"),
-    "pix_raw_scale": (16, f"write:4 {_SCALE.format(4)}"),
-    "pix_raw_scale_rgba16": (16, f"write:8 {_SCALE.format(8)}"),
-    "pix_raw_scale_graya8": (16, f"write:2 {_SCALE.format(2)}"),
+    "pix_raw_scale": (16, "write:4 u32 u32 u32 u32 u32 u32 u32 read:4 u32 u32 u32 u32 own size"),
+    "pix_raw_scale_rgba16": (16, "write:8 u32 u32 u32 u32 u32 u32 u32 read:8 u32 u32 u32 u32 own size"),
+    "pix_raw_scale_graya8": (16, "write:2 u32 u32 u32 u32 u32 u32 u32 read:2 u32 u32 u32 u32 own size"),
     "pix_raw_scale_work": (0, "u32 u32 u32 u32 u32 u32 u32 u32 u32 own"),
     "pix_raw_map_indexed": (128, "table:3 read:3 write:1"),
     "pix_raw_map_indexed_alpha": (128, "table:3 read:4 u8 u8 write:1"),
@@ -43,13 +42,14 @@ CALLS = {
     "pix_raw_diffuse_indexed_by_alpha": (160, "table:3 read:4 size u8 u8 u8 u8 own size write:1"),
     "pix_raw_index_pixels": (16, "table:3 count own read:3 own size"),
     "pix_raw_look_up": (2, "table:3 read:1 write:3"),
+    "pix_raw_count_indices": (1, "read:1 own size"),
+    "pix_raw_pack_row": (2, "u32 read:1 write:1"),
+    "pix_raw_unpack_row": (2, "u32 read:1 write:1"),
     "pix_raw_quantize_rgba": (600, "read:4 u8 own size own size count"),
     "pix_raw_map_indexed_rgba": (256, "table:4 read:4 write:1"),
     "pix_raw_diffuse_indexed_rgba": (256, "table:4 read:4 size u8 u8 own size write:1"),
     "pix_raw_look_up_rgba": (2, "table:4 read:1 write:4"),
-    "pix_raw_count_indices": (1, "read:1 own size"),
-    "pix_raw_pack_row": (2, "u32 read:1 write:1"),
-    "pix_raw_unpack_row": (2, "u32 read:1 write:1"),
+    # made by tools/names: end
 }
 
 _TYPES = {"size": ctypes.c_size_t, "u8": ctypes.c_uint8, "u32": ctypes.c_uint32, "i64": ctypes.c_int64}

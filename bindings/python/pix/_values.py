@@ -194,12 +194,16 @@ class Filter(IntEnum):
     """How a pixel of a picture at another size is made of those of the source.
 
     Columns and rows are weighed apart, in whole numbers. A pixel is the sum of all products of pixels and weights, divided by
-    the sum of the weights. It is rounded once, to the nearest, ties up.
+    the sum of the weights. It is rounded once, to the nearest, ties up. The last three have weights below 0: an alpha is cut at
+    0 and at the greatest channel, and a color at 0 and at the new alpha. A side that keeps its length is not filtered by them.
     """
 
     NEAREST = 0  # the pixel under its center: for sprites
     AREA = 1  # the mean of the area that it covers: for photographs, and for sharp enlarged pixels
     LINEAR = 2  # by the distance of centers, as far as one pixel, of the source or of the result: smooth
+    CATMULL_ROM = 3  # a cubic as far as two pixels, with weights below 0: sharp
+    MITCHELL = 4  # such a cubic that is softer, with less of a rim around edges
+    LANCZOS = 5  # a windowed sine as far as three pixels: the sharpest
 
     @classmethod
     def _missing_(cls, value: object) -> None:
@@ -213,27 +217,30 @@ class Filter(IntEnum):
 class Status(IntEnum):
     """The statuses that the library returns."""
 
-    OK = 0
-    BAD_SIZE = 1
-    BAD_KIND = 2
-    BAD_REGION = 3
-    BAD_OP = 4
-    BAD_SOURCE = 5
-    BAD_FORMAT = 6
-    BAD_LENGTH = 7
-    BAD_TABLE = 11
-    BAD_INDEX = 12
-    BAD_DEPTH = 13
-    FULL_TABLE = 14
-    BAD_STRENGTH = 15
-    NO_SIDE = 16
-    TOO_LARGE = 17
-    OUTSIDE = 18
-    SMALL_WORK = 19
-    BAD_FILTER = 20
+    # made by tools/names: statuses
+    OK = 0  # done
+    BAD_SIZE = 1  # the written image: a side above 2147483647, a stride below the width, or more pixels than its memory has
+    BAD_KIND = 2  # no such kind of command
+    BAD_REGION = 3  # a region of a command has a side above 2147483647
+    BAD_OP = 4  # no such operator
+    BAD_SOURCE = 5  # a source, a matte, a mask or a bitmap that is read: as BAD_SIZE
+    BAD_FORMAT = 6  # no such format, or one that the call doesn't take
+    BAD_LENGTH = 7  # more pixels, indices or commands than memory holds, or lengths that don't match
+    BAD_TABLE = 11  # a table has no entry, or more than 256
+    BAD_INDEX = 12  # an index is past the end, or takes more bits than the depth has
+    BAD_DEPTH = 13  # the depth of indices is not 1, 2, 4 or 8 bits
+    FULL_TABLE = 14  # a table has no room for a color
+    BAD_STRENGTH = 15  # the strength of error diffusion is above 16
+    NO_SIDE = 16  # a side of the source or of the new picture is 0
+    TOO_LARGE = 17  # a side of the source is above 65535, or the new picture has larger sides than its sums allow
+    OUTSIDE = 18  # the window is not all in the new picture
+    SMALL_WORK = 19  # the work memory has fewer words than scale_work says
+    BAD_FILTER = 20  # no such filter
+    # made by tools/names: end
 
 
 _TEXTS = {
+    # made by tools/names: texts
     Status.BAD_SIZE: "the image has a bad size or stride, or its buffer is too short",
     Status.BAD_KIND: "no such kind of command",
     Status.BAD_REGION: "a region has a side above 2147483647",
@@ -241,8 +248,8 @@ _TEXTS = {
     Status.BAD_SOURCE: "its source has a bad size or stride, or a buffer that is too short",
     Status.BAD_FORMAT: "no such format",
     Status.BAD_LENGTH: "the lengths of the buffers don't match",
-    Status.BAD_TABLE: "a table has no entry, or more than 256",
-    Status.BAD_INDEX: "an index is past the end, or takes more bits than it is to have",
+    Status.BAD_TABLE: "a table must have 1 to 256 entries",
+    Status.BAD_INDEX: "an index is past the end, or needs more bits than it has",
     Status.BAD_DEPTH: "indices take 1, 2, 4 or 8 bits",
     Status.FULL_TABLE: "a table has no room for a color",
     Status.BAD_STRENGTH: "errors are diffused with a strength of 0 to 16",
@@ -251,6 +258,7 @@ _TEXTS = {
     Status.OUTSIDE: "the window is not all in the new picture",
     Status.SMALL_WORK: "the work memory is too small",
     Status.BAD_FILTER: "no such filter",
+    # made by tools/names: end
 }
 
 

@@ -19,12 +19,14 @@
 //! A call's working memory is on the stack of its thread, which needs this many KiB. They include the thread's first frames, and
 //! 8 KiB for a signal handler that runs meanwhile:
 //!
+//! <!-- made by tools/names: stack -->
 //! | KiB | calls |
 //! |--:|---|
-//! | 272 | `pix_raw_quantize_refined`, `pix_raw_map_indexed`, `pix_raw_diffuse_indexed_by`, and all three with `_alpha` |
+//! | 272 | `pix_raw_map_indexed`, `pix_raw_map_indexed_alpha`, `pix_raw_quantize_refined`, `pix_raw_quantize_refined_alpha`, `pix_raw_diffuse_indexed_by`, `pix_raw_diffuse_indexed_by_alpha` |
 //! | 128 | `pix_raw_quantize_rgba` |
 //! | 48 | `pix_raw_index_pixels`, `pix_raw_map_indexed_rgba`, `pix_raw_diffuse_indexed_rgba` |
 //! | 24 | all others |
+//! <!-- made by tools/names: end -->
 //!
 //! Threads of `std` have 2 MiB.
 #![no_std]
@@ -120,21 +122,22 @@ pub mod kind {
 
 /// The statuses that the functions return.
 pub mod status {
+    // made by tools/names: statuses
     /// Done.
     pub const OK: u32 = 0;
-    /// The image, or the bitmap that is written: a side above 2147483647, a stride below the width, or too few elements.
+    /// The written image: a side above 2147483647, a stride below the width, or more pixels than its memory has.
     pub const BAD_SIZE: u32 = 1;
     /// No such kind of command.
     pub const BAD_KIND: u32 = 2;
-    /// A region has a side above 2147483647.
+    /// A region of a command has a side above 2147483647.
     pub const BAD_REGION: u32 = 3;
     /// No such operator.
     pub const BAD_OP: u32 = 4;
-    /// The same as `BAD_SIZE` for a source, a matte or a mask.
+    /// A source, a matte, a mask or a bitmap that is read: as `BAD_SIZE`.
     pub const BAD_SOURCE: u32 = 5;
     /// No such format, or one that the call doesn't take.
     pub const BAD_FORMAT: u32 = 6;
-    /// Lengths don't match.
+    /// More pixels, indices or commands than memory holds, or lengths that don't match.
     pub const BAD_LENGTH: u32 = 7;
     /// A table has no entry, or more than 256.
     pub const BAD_TABLE: u32 = 11;
@@ -148,14 +151,15 @@ pub mod status {
     pub const BAD_STRENGTH: u32 = 15;
     /// A side of the source or of the new picture is 0.
     pub const NO_SIDE: u32 = 16;
-    /// A side of the source is above 65535, or the new picture is too large for its sums.
+    /// A side of the source is above 65535, or the new picture has larger sides than its sums allow.
     pub const TOO_LARGE: u32 = 17;
     /// The window is not all in the new picture.
     pub const OUTSIDE: u32 = 18;
-    /// The work memory is too small.
+    /// The work memory has fewer words than `scale_work` says.
     pub const SMALL_WORK: u32 = 19;
     /// No such filter.
     pub const BAD_FILTER: u32 = 20;
+    // made by tools/names: end
 }
 
 /// A function that runs commands `C` on a window of a picture, of pixels `P`. The window's place comes after the count of its
@@ -175,8 +179,17 @@ pub type RunWindow<P, C> = unsafe extern "C" fn(
 
 #[link(name = "pix_c", kind = "static")]
 unsafe extern "C" {
-    /// Runs all commands on a window of a picture of `Rgba8`, or none; `done` is their number, or the index of the bad one. The
-    /// window's first pixel is the point (`left`, `top`) of the picture, so an image by itself is the window at (0, 0).
+    // made by tools/names: calls
+    /// Returns fact number `index` of the library. The first is its version. The others are sizes and offsets in
+    /// bytes, in the order of the facts of each binding. Past the last one it returns the greatest number of 32 bits.
+    pub safe fn pix_layout(index: usize) -> u32;
+
+    /// Returns how many bytes a pixel of a format has, or 0 if there is no such format.
+    pub safe fn pix_raw_format_size(format: u32) -> u32;
+
+    /// Runs all commands on a window of a picture, or none. `done` is their number, or the index of the bad one. The
+    /// window's first pixel is the point (`left`, `top`) of the picture, so an image by itself is the window at
+    /// (0, 0).
     ///
     /// # Safety
     ///
@@ -194,7 +207,7 @@ unsafe extern "C" {
         done: *mut usize,
     ) -> u32;
 
-    /// The same on a window of `Rgba16`.
+    /// The same on pixels of 16 bits a channel.
     ///
     /// # Safety
     ///
@@ -212,7 +225,7 @@ unsafe extern "C" {
         done: *mut usize,
     ) -> u32;
 
-    /// The same on a window of `Graya8`.
+    /// The same on pixels of gray and alpha.
     ///
     /// # Safety
     ///
@@ -245,8 +258,9 @@ unsafe extern "C" {
         count: usize,
     ) -> u32;
 
-    /// Writes a bitmap from another of the same size, pixel by pixel. Strides are counted in bytes. Both buffers begin with the
-    /// row that is lowest in memory, which is the bottom one if the stride is negative.
+    /// Writes a bitmap from another of the same size, pixel by pixel. Strides are in bytes, and 0 does not stand for
+    /// the width. Both buffers begin with the row that is lowest in memory, which is the bottom one if the stride is
+    /// negative. They end with the last row's last pixel.
     ///
     /// # Safety
     ///
@@ -263,19 +277,13 @@ unsafe extern "C" {
         width: u32,
         height: u32,
     ) -> u32;
-
-    /// How many bytes a pixel of a format has, or 0 if there is no such format.
-    pub safe fn pix_raw_format_size(format: u32) -> u32;
-
-    /// Fact number `index` of the library: its version, and then the sizes and offsets of [`FACTS`]. `u32::MAX` if there
-    /// are no more.
-    pub safe fn pix_layout(index: usize) -> u32;
+    // made by tools/names: end
 }
 
 /// The version of the binary interface. It changes if a call, a number or a layout changes.
 pub const ABI_VERSION: u32 = 4;
 
-/// The numbers that [`pix_layout`] returns, from 0 on. First comes the version. Then come the sizes of the three kinds of
+/// The numbers that [`pix_layout`] returns, from 0 on. First comes the version. Then come the sizes of the kinds of
 /// pixels and of a region, and the offsets of its fields. Last is the size of each kind's command, and the offsets of its
 /// fields.
 pub const FACTS: [u32; 65] = facts();

@@ -24,8 +24,9 @@ pub type Scale<P> = unsafe extern "C" fn(
 ) -> u32;
 
 unsafe extern "C" {
-    /// Writes the window at (`left`, `top`) of a picture of `across` by `down` pixels that is made of a source. `work` is the
-    /// memory for it, of at least as many words as [`pix_raw_scale_work`] says.
+    // made by tools/names: calls
+    /// Writes the window at (`left`, `top`) of a picture of `across` by `down` pixels that is made of a source.
+    /// `work` is the memory for it, of at least as many words as [`pix_raw_scale_work`] says.
     ///
     /// # Safety
     ///
@@ -47,7 +48,7 @@ unsafe extern "C" {
         source_stride: u32,
         filter: u32,
         work: *mut u32,
-        work_count: usize,
+        work_len: usize,
     ) -> u32;
 
     /// The same for pixels of 16 bits a channel.
@@ -72,10 +73,10 @@ unsafe extern "C" {
         source_stride: u32,
         filter: u32,
         work: *mut u32,
-        work_count: usize,
+        work_len: usize,
     ) -> u32;
 
-    /// The same for gray pixels.
+    /// The same for pixels of gray and alpha.
     ///
     /// # Safety
     ///
@@ -97,11 +98,11 @@ unsafe extern "C" {
         source_stride: u32,
         filter: u32,
         work: *mut u32,
-        work_count: usize,
+        work_len: usize,
     ) -> u32;
 
-    /// Sets `words` to how many words of work memory a window of `width` by `height` takes, of pixels of so many channels of
-    /// 8 or 16 bits.
+    /// Sets `words` to how many words of work memory a window of `width` by `height` takes. Its pixels have so many
+    /// channels, of 8 or 16 bits.
     ///
     /// # Safety
     ///
@@ -118,4 +119,5 @@ unsafe extern "C" {
         filter: u32,
         words: *mut u64,
     ) -> u32;
+    // made by tools/names: end
 }

@@ -3,6 +3,7 @@
 use crate::{Srgb8, Srgba8};
 
 unsafe extern "C" {
+    // made by tools/names: calls
     /// Writes the index of the entry of a table that is nearest to a color.
     ///
     /// # Safety
@@ -29,8 +30,8 @@ unsafe extern "C" {
         index_count: usize,
     ) -> u32;
 
-    /// The same for pixels with an alpha: one below `alpha` gets the index `transparent_index`. If all are below, a table without
-    /// an entry serves too.
+    /// The same for pixels with an alpha: one below `alpha` gets the index `transparent_index`. If all are below, a
+    /// table without an entry serves too.
     ///
     /// # Safety
     ///
@@ -62,7 +63,7 @@ unsafe extern "C" {
         made: *mut usize,
     ) -> u32;
 
-    /// The same for pixels with an alpha: those below `alpha` do not count.
+    /// The same for pixels with an alpha: those below `alpha` are left out.
     ///
     /// # Safety
     ///
@@ -79,8 +80,8 @@ unsafe extern "C" {
         made: *mut usize,
     ) -> u32;
 
-    /// Writes the index of each pixel of rows of `width` by error diffusion, with `strength` sixteenths of each error. If
-    /// `serpentine` isn't 0, every second row goes from right to left.
+    /// Writes the index of each pixel of rows of `width` by error diffusion, with `strength` sixteenths of each
+    /// error. If `serpentine` isn't 0, every second row goes from right to left.
     ///
     /// # Safety
     ///
@@ -99,8 +100,8 @@ unsafe extern "C" {
         index_count: usize,
     ) -> u32;
 
-    /// The same for pixels with an alpha: one below `alpha` gets the index `transparent_index`, and passes on no error. If all
-    /// are below, a table without an entry serves too.
+    /// The same for pixels with an alpha: one below `alpha` gets the index `transparent_index`, and passes on no
+    /// error. If all are below, a table without an entry serves too.
     ///
     /// # Safety
     ///
@@ -137,7 +138,7 @@ unsafe extern "C" {
         index_count: usize,
     ) -> u32;
 
-    /// Writes the entry for each index.
+    /// Writes the entry of each index.
     ///
     /// # Safety
     ///
@@ -151,7 +152,7 @@ unsafe extern "C" {
         pixel_count: usize,
     ) -> u32;
 
-    /// Writes how often each number below `len` is among the indices.
+    /// Writes how often each number below the length of `counts` is among the indices.
     ///
     /// # Safety
     ///
@@ -189,7 +190,8 @@ unsafe extern "C" {
         index_count: usize,
     ) -> u32;
 
-    /// Writes a table of the colors of pixels, with their alphas, refined by `rounds` rounds, and how many entries it has.
+    /// Writes a table of the colors of pixels, with their alphas, refined by `rounds` rounds, and how many entries it
+    /// has.
     ///
     /// # Safety
     ///
@@ -219,7 +221,7 @@ unsafe extern "C" {
         index_count: usize,
     ) -> u32;
 
-    /// Writes the index of each pixel of rows of `width` by error diffusion, as `pix_raw_diffuse_indexed_by` does.
+    /// Writes the index of each pixel of rows of `width` by error diffusion, as [`pix_raw_diffuse_indexed_by`] does.
     ///
     /// # Safety
     ///
@@ -238,7 +240,7 @@ unsafe extern "C" {
         index_count: usize,
     ) -> u32;
 
-    /// Writes the entry for each index.
+    /// Writes the entry of each index.
     ///
     /// # Safety
     ///
@@ -251,4 +253,5 @@ unsafe extern "C" {
         pixels: *mut Srgba8,
         pixel_count: usize,
     ) -> u32;
+    // made by tools/names: end
 }

@@ -4,7 +4,7 @@
 #![forbid(unsafe_code)]
 
 use pix::{Bitmap, BitmapMut, Command, Error, Format, Image, ImageMut, Op, Pixel, Region};
-use pix::{ColorTable, Rgba8, Rgba16, Srgb8};
+use pix::{ColorTable, Filter, Rgba8, Rgba16, Srgb8, scale, scale_work};
 use std::io::Write;
 
 /// The letter P as a mask: each digit is a ninth of full coverage.
@@ -92,6 +92,24 @@ fn glaze(photo: &mut [u8], width: u32, height: u32) -> Result<(), Error> {
     BitmapMut::new(photo, width, height, Format::SRgb8).convert_bitmap(image.as_bitmap())
 }
 
+/// Makes a thumbnail of a photograph, both sRGB bytes, three a pixel: decodes them to light, scales
+/// by areas, and encodes. Both sizes are (width, height).
+fn make_thumbnail(photo: &[u8], from: (u32, u32), size: (u32, u32)) -> Result<Vec<u8>, Error> {
+    let mut light = vec![Rgba16::default(); (from.0 * from.1) as usize];
+    let mut means = vec![Rgba16::default(); (size.0 * size.1) as usize];
+    let mut bytes = vec![0; 3 * means.len()];
+    let mut work = vec![0; scale_work::<Rgba16>(size, size, from, Filter::Area)?];
+    let mut large = ImageMut::new(&mut light, from.0, from.1);
+    let mut small = ImageMut::new(&mut means, size.0, size.1);
+    let photo = Bitmap::new(photo, from.0, from.1, Format::SRgb8);
+    let mut thumbnail = BitmapMut::new(&mut bytes, size.0, size.1, Format::SRgb8);
+    large.as_bitmap_mut().convert_bitmap(photo)?;
+    let source = large.as_image();
+    scale(&mut small, (0, 0), size, &source, Filter::Area, &mut work)?;
+    thumbnail.convert_bitmap(small.as_bitmap())?;
+    Ok(bytes)
+}
+
 /// Makes a table of at most 16 colors of a picture, and sets the index of each pixel in it.
 fn index_picture<'a>(
     pixels: &[Srgb8],
@@ -172,6 +190,9 @@ fn main() -> Result<(), Box<dyn std::error::Error>> {
     let mut photo = read_lake(&lake)?;
     glaze(&mut photo, 160, 100)?;
     write_ppm("light.ppm", &photo, 160, 100)?;
+
+    let thumbnail = make_thumbnail(&read_lake(&lake)?, (160, 100), (64, 40))?;
+    write_ppm("thumbnail.ppm", &thumbnail, 64, 40)?;
 
     let colors: Vec<Srgb8> = read_lake(&lake)?
         .chunks(3)

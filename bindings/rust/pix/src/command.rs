@@ -377,6 +377,19 @@ impl<'a> Command<'a, Rgba16> {
 
     /// Composites the pixels of `from` in a source, multiplied by the values of `mask_from` in a mask of 8 bits, with those
     /// of `to`. [`Command::composite_image_matte`] does it with a mask of 16 bits.
+    ///
+    /// ```
+    /// use pix::{Command, Image, ImageMut, Op, Region, Rgba16};
+    ///
+    /// let (red, soft, all) = (Rgba16::new(65535, 0, 0, 65535), [255, 128], Region::new(0, 0, 2, 1));
+    /// let (source, mask) = ([red; 2], Image::new(&soft, 2, 1));
+    /// let mut pixels = [Rgba16::default(); 2];
+    /// let source = Image::new(&source, 2, 1);
+    /// let faded = Command::composite_image_matte8(all, source, all, mask, all, Op::SrcOver);
+    /// ImageMut::new(&mut pixels, 2, 1).run(&[faded])?;
+    /// assert_eq!(pixels, [red, Rgba16::new(32896, 0, 0, 32896)]);
+    /// # Ok::<(), pix::Error>(())
+    /// ```
     pub fn composite_image_matte8(
         to: Region,
         source: Image<'a, Rgba16>,

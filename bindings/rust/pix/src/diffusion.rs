@@ -84,6 +84,18 @@ impl ColorTable<'_> {
     /// Sets the index of each pixel with an alpha by error diffusion with the settings in `how`, and otherwise like
     /// [`diffuse_indexed_alpha`](ColorTable::diffuse_indexed_alpha).
     ///
+    /// ```
+    /// use pix::{ColorTable, Diffusion, Srgb8, Srgba8};
+    ///
+    /// let entries = [Srgb8::new(0, 0, 0), Srgb8::new(255, 255, 255)];
+    /// let (gray, clear) = (Srgba8::new(128, 128, 128, 255), Srgba8::new(0, 0, 0, 9));
+    /// let (mut work, mut indices) = ([Srgb8::default(); 4 * 4], [9; 4]);
+    /// let (table, how) = (ColorTable::new(&entries)?, Diffusion { strength: 16, serpentine: false });
+    /// table.diffuse_indexed_by_alpha(&[gray, gray, clear, gray], 4, 128, 7, how, &mut work, &mut indices)?;
+    /// assert_eq!(indices, [1, 0, 7, 1]);
+    /// # Ok::<(), pix::Error>(())
+    /// ```
+    ///
     /// # Errors
     ///
     /// As [`diffuse_indexed_by`](ColorTable::diffuse_indexed_by).

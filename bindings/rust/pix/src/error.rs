@@ -117,10 +117,8 @@ impl fmt::Display for Error {
             }
             Error::Larger => f.write_str("in place, a pixel would be larger"),
             Error::Length => f.write_str("the lengths don't match"),
-            Error::Table => f.write_str("a table has no entry, or more than 256"),
-            Error::Index => {
-                f.write_str("an index is past the end, or takes more bits than it is to have")
-            }
+            Error::Table => f.write_str("a table must have 1 to 256 entries"),
+            Error::Index => f.write_str("an index is past the end, or needs more bits than it has"),
             Error::Full => f.write_str("a table has no room for a color"),
             Error::Strength => f.write_str("errors are diffused with a strength of 0 to 16"),
             Error::NoSide => f.write_str("a side of the source or of the new picture is 0"),

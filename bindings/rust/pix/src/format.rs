@@ -188,6 +188,10 @@ const SIZES: [u8; 81] = [
 
 impl Format {
     /// How many bytes a pixel has, from 1 to 8.
+    ///
+    /// ```
+    /// assert_eq!([pix::Format::SGray8.size(), pix::Format::Rgba16p.size()], [1, 8]);
+    /// ```
     pub const fn size(self) -> usize {
         SIZES[self as usize] as usize
     }

@@ -56,6 +56,17 @@ impl<'a, T> Image<'a, T> {
 
 impl<'a, P: Pixel> Image<'a, P> {
     /// The image as a bitmap, to be read.
+    ///
+    /// ```
+    /// use pix::{BitmapMut, Format, Image, Rgba16};
+    ///
+    /// let light = [Rgba16::new(37852, 12309, 1391, 65535)];
+    /// let mut file = [0; 3];
+    /// let picture = Image::new(&light, 1, 1).as_bitmap();
+    /// BitmapMut::new(&mut file, 1, 1, Format::SRgb8).convert_bitmap(picture)?;
+    /// assert_eq!(file, [200, 120, 40]);
+    /// # Ok::<(), pix::Error>(())
+    /// ```
     pub fn as_bitmap(&self) -> Bitmap<'a> {
         let stride = self.stride as usize * size_of::<P>();
         Bitmap::with_stride(

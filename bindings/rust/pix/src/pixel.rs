@@ -131,7 +131,7 @@ impl private::Calls<u8> for Graya8 {
 
 /// The bytes of pixels, in the order of their channels. A channel of 16 bits is in the machine's order.
 pub fn bytes<P: Pixel>(pixels: &[P]) -> &[u8] {
-    // SAFETY: the three kinds of pixels are numbers without padding, and the slice is borrowed as long as the pixels.
+    // SAFETY: the kinds of pixels are numbers without padding, and the slice is borrowed as long as the pixels.
     unsafe { slice::from_raw_parts(pixels.as_ptr().cast(), size_of_val(pixels)) }
 }
 

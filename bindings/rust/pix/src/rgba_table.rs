@@ -2,7 +2,7 @@
 
 use crate::diffusion::Diffusion;
 use crate::error::Error;
-use crate::table::{Srgba8, done};
+use crate::table::{Srgba8, done, of_a_table};
 use pix_sys::check_library;
 
 /// A table of 1 to 256 colors with an alpha, which it borrows, as in a PNG with the chunks PLTE and tRNS.
@@ -34,10 +34,7 @@ impl<'a> RgbaTable<'a> {
     ///
     /// `Table` if there is none, or more than 256.
     pub fn new(entries: &'a [Srgba8]) -> Result<RgbaTable<'a>, Error> {
-        if entries.is_empty() || entries.len() > 256 {
-            return Err(Error::Table);
-        }
-        Ok(RgbaTable { entries })
+        of_a_table(entries).map(|entries| RgbaTable { entries })
     }
 
     /// The entries, in order.
@@ -71,6 +68,17 @@ impl<'a> RgbaTable<'a> {
     /// looks nearest to it, takes no errors, and passes on none. `work` has exactly
     /// [`diffuse_indexed_work`](crate::diffuse_indexed_work) pixels.
     ///
+    /// ```
+    /// use pix::{Diffusion, RgbaTable, Srgba8};
+    ///
+    /// let entries = [Srgba8::new(0, 0, 0, 0), Srgba8::new(0, 0, 0, 255)];
+    /// let half = [Srgba8::new(0, 0, 0, 128); 8]; // two rows of four
+    /// let (mut work, mut indices) = ([Srgba8::default(); 4 * 4], [9; 8]);
+    /// RgbaTable::new(&entries)?.diffuse_indexed(&half, 4, Diffusion::default(), &mut work, &mut indices)?;
+    /// assert_eq!(indices, [1, 0, 1, 0, 0, 1, 0, 1]);
+    /// # Ok::<(), pix::Error>(())
+    /// ```
+    ///
     /// # Errors
     ///
     /// As [`ColorTable::diffuse_indexed_by`](crate::ColorTable::diffuse_indexed_by).
@@ -102,6 +110,16 @@ impl<'a> RgbaTable<'a> {
     }
 
     /// Sets each pixel to the entry of the index in the same place.
+    ///
+    /// ```
+    /// use pix::{RgbaTable, Srgba8};
+    ///
+    /// let (clear, red) = (Srgba8::new(0, 0, 0, 0), Srgba8::new(255, 0, 0, 255));
+    /// let mut pixels = [Srgba8::default(); 3];
+    /// RgbaTable::new(&[clear, red])?.look_up(&[1, 1, 0], &mut pixels)?;
+    /// assert_eq!(pixels, [red, red, clear]);
+    /// # Ok::<(), pix::Error>(())
+    /// ```
     ///
     /// # Errors
     ///

@@ -90,6 +90,15 @@ pub fn pack_row(depth: IndexDepth, indices: &[u8], bytes: &mut [u8]) -> Result<(
 
 /// Unpacks a row of indices from its bytes. Unused bits of the last byte are ignored.
 ///
+/// ```
+/// use pix::{IndexDepth, unpack_row};
+///
+/// let mut indices = [0; 3];
+/// unpack_row(IndexDepth::Four, &[0x12, 0x3f], &mut indices)?;
+/// assert_eq!(indices, [1, 2, 3]);
+/// # Ok::<(), pix::Error>(())
+/// ```
+///
 /// # Errors
 ///
 /// `Length` if there are not exactly as many bytes as the row takes. The indices are unchanged.

@@ -9,7 +9,8 @@ use pix_sys::{check_library, status};
 /// How a pixel of a picture at another size is made of those of the source.
 ///
 /// Columns and rows are weighed apart, in whole numbers. A pixel is the sum of all products of pixels and weights, divided by
-/// the sum of the weights. It is rounded once, to the nearest, ties up.
+/// the sum of the weights. It is rounded once, to the nearest, ties up. The last three have weights below 0: an alpha is cut at
+/// 0 and at the greatest channel, and a color at 0 and at the new alpha. A side that keeps its length is not filtered by them.
 #[repr(u32)]
 #[non_exhaustive]
 #[derive(Clone, Copy, Debug, PartialEq, Eq, Hash)]
@@ -20,11 +21,24 @@ pub enum Filter {
     Area = 1,
     /// By the distance of centers, as far as one pixel, of the source or of the result: smooth.
     Linear = 2,
+    /// A cubic as far as two pixels, with weights below 0: sharp.
+    CatmullRom = 3,
+    /// Such a cubic that is softer, with less of a rim around edges.
+    Mitchell = 4,
+    /// A windowed sine as far as three pixels: the sharpest.
+    Lanczos = 5,
 }
 
 impl Filter {
     /// All filters, in the order of their numbers.
-    pub const ALL: [Filter; 3] = [Filter::Nearest, Filter::Area, Filter::Linear];
+    pub const ALL: [Filter; 6] = [
+        Filter::Nearest,
+        Filter::Area,
+        Filter::Linear,
+        Filter::CatmullRom,
+        Filter::Mitchell,
+        Filter::Lanczos,
+    ];
 }
 
 /// Answers a status.

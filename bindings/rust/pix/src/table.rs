@@ -31,6 +31,14 @@ pub(crate) fn done(answer: u32) -> Result<(), Error> {
     }
 }
 
+/// The entries of a table, if there are 1 to 256.
+pub(crate) fn of_a_table<T>(entries: &[T]) -> Result<&[T], Error> {
+    match entries.len() {
+        1..=256 => Ok(entries),
+        _ => Err(Error::Table),
+    }
+}
+
 impl<'a> ColorTable<'a> {
     /// A table of these entries, in order.
     ///
@@ -38,10 +46,7 @@ impl<'a> ColorTable<'a> {
     ///
     /// `Table` if there is none, or more than 256.
     pub fn new(entries: &'a [Srgb8]) -> Result<ColorTable<'a>, Error> {
-        if entries.is_empty() || entries.len() > 256 {
-            return Err(Error::Table);
-        }
-        Ok(ColorTable { entries })
+        of_a_table(entries).map(|entries| ColorTable { entries })
     }
 
     /// The entries, in order.
@@ -256,11 +261,12 @@ pub const fn diffuse_indexed_work(width: usize) -> Option<usize> {
 pub const DEFAULT_ROUNDS: u8 = 6;
 
 /// Makes a table of the colors of `pixels` in the first of `entries`, and returns those. If there are no more distinct colors
-/// than entries, they are the table, in order of first place. Otherwise, the colors are split into boxes, always by the split
-/// that reduces the squared error most. Then the pairs of boxes that raise it least are merged, and the entries are the means
-/// of the boxes, which six rounds refine ([`quantize_refined`]). Errors are compared by quotients rounded down, so of nearly equal ones another may be chosen. The contents of
-/// the other entries are unspecified. `work` has exactly as many colors as there are pixels; for a large picture pass a sample
-/// of its pixels.
+/// than entries, they are the table, in order of first place. Otherwise, if all are grays, no table of at most as many
+/// entries has a smaller squared error. Otherwise, the colors are split into boxes, always by the split that reduces the
+/// squared error most. Then the pairs of boxes that raise it least are merged, and the entries are the means of the boxes,
+/// which six rounds refine ([`quantize_refined`]). Errors are compared by quotients rounded down, so of nearly equal ones
+/// another may be chosen. The contents of the other entries are unspecified. `work` has exactly as many colors as there are
+/// pixels; for a large picture pass a sample of its pixels.
 ///
 /// ```
 /// use pix::{Srgb8, quantize};
@@ -312,17 +318,18 @@ pub fn quantize_alpha<'a>(
 }
 
 /// Makes a table as [`quantize`] does, with another number of rounds than [`DEFAULT_ROUNDS`]. They refine it if there are more
-/// distinct colors than entries. In a round each color goes to its nearest entry, the first if several are equal. Each entry goes to the mean of its colors,
-/// rounded, and stays if it has none. No round makes the sum of the squared errors greater.
+/// distinct colors than entries, and not all are grays. In a round each color goes to its nearest entry, the first if several
+/// are equal. Each entry goes to the mean of its colors, rounded, and stays if it has none. No round makes the sum of the
+/// squared errors greater.
 ///
 /// ```
 /// use pix::{Srgb8, quantize, quantize_refined};
 ///
-/// let gray = |v| Srgb8::new(v, v, v);
-/// let pixels = [130, 100, 160, 60, 170, 70].map(gray);
+/// let red = |v| Srgb8::new(v, 0, 0);
+/// let pixels = [130, 100, 160, 60, 170, 70].map(red);
 /// let (mut work, mut entries) = ([Srgb8::default(); 6], [Srgb8::default(); 2]);
-/// assert_eq!(quantize_refined(&pixels, 0, &mut work, &mut entries)?, [90, 165].map(gray));
-/// assert_eq!(quantize(&pixels, &mut work, &mut entries)?, [77, 153].map(gray));
+/// assert_eq!(quantize_refined(&pixels, 0, &mut work, &mut entries)?, [90, 165].map(red));
+/// assert_eq!(quantize(&pixels, &mut work, &mut entries)?, [77, 153].map(red));
 /// # Ok::<(), pix::Error>(())
 /// ```
 ///
@@ -355,6 +362,16 @@ pub fn quantize_refined<'a>(
 
 /// Makes a table of the colors of pixels with an alpha, and refines it, like [`quantize_refined`]. Pixels with an alpha below
 /// `alpha` do not count, as in [`quantize_alpha`].
+///
+/// ```
+/// use pix::{Srgb8, Srgba8, quantize_refined_alpha};
+///
+/// let pixels = [Srgba8::new(9, 9, 9, 255), Srgba8::new(7, 0, 0, 3), Srgba8::new(0, 200, 0, 128)];
+/// let (mut work, mut entries) = ([Srgb8::default(); 3], [Srgb8::default(); 16]);
+/// let table = quantize_refined_alpha(&pixels, 128, 2, &mut work, &mut entries)?;
+/// assert_eq!(table, [Srgb8::new(9, 9, 9), Srgb8::new(0, 200, 0)]);
+/// # Ok::<(), pix::Error>(())
+/// ```
 ///
 /// # Errors
 ///

@@ -20,7 +20,8 @@ fn color(i: u32) -> Rgba8 {
 }
 
 fn gray(i: u32) -> Graya8 {
-    Graya8::new(i as u8, (i >> 8) as u8)
+    let alpha = i as u8;
+    Graya8::new(((i / 2) as u8).min(alpha), alpha)
 }
 
 fn wide(i: u32) -> Rgba16 {

@@ -105,12 +105,13 @@ fn tables_of_pixels() {
     assert_eq!(made, [gray(9), gray(1), gray(200)]);
     assert!(quantize(&[], &mut [], &mut entries).unwrap().is_empty());
     // Cut between 1 and 200: 0, 0, 0 and 1 make 0, and 200, 201, 200, 201 make 201, since ties go up.
-    let many = [0, 0, 0, 1, 200, 201, 200, 201].map(gray);
+    let red = |v| Srgb8::new(v, 0, 0);
+    let many = [0, 0, 0, 1, 200, 201, 200, 201].map(red);
     let made = quantize(&many, &mut work, &mut entries[..2]).unwrap();
-    assert_eq!(made, [gray(0), gray(201)]);
+    assert_eq!(made, [red(0), red(201)]);
     // Of three boxes the first two cost as much to join as the last two, and the first two are joined.
-    let made = quantize(&[10, 20, 30].map(gray), &mut work, &mut entries[..2]).unwrap();
-    assert_eq!(made, [gray(15), gray(30)]);
+    let made = quantize(&[10, 20, 30].map(red), &mut work, &mut entries[..2]).unwrap();
+    assert_eq!(made, [red(15), red(30)]);
     let clear = [Srgba8::new(1, 2, 3, 128), Srgba8::new(4, 5, 6, 127)];
     let made = quantize_alpha(&clear, 128, &mut work, &mut entries).unwrap();
     assert_eq!(made, [Srgb8::new(1, 2, 3)]);
@@ -128,7 +129,7 @@ fn tables_of_pixels() {
 
 #[test]
 fn refined_tables() {
-    let gray = |v| Srgb8::new(v, v, v);
+    let (gray, red) = (|v| Srgb8::new(v, v, v), |v| Srgb8::new(v, 0, 0));
     let mut work = [Srgb8::default(); 8];
     let mut entries = [gray(77); 4];
     let few = [gray(9), gray(1), gray(9), gray(200)];
@@ -136,22 +137,22 @@ fn refined_tables() {
     assert_eq!(made, [gray(9), gray(1), gray(200)]);
     // By hand: the joined boxes are 60, 70, 100 and 130, whose mean is 90, and 160 and 170. 130 is
     // nearer to 165, and goes there.
-    let pixels = [130, 100, 160, 60, 170, 70].map(gray);
+    let pixels = [130, 100, 160, 60, 170, 70].map(red);
     let by_default = quantize(&pixels, &mut work, &mut entries[..2]).unwrap();
-    assert_eq!((by_default, DEFAULT_ROUNDS), (&[77, 153].map(gray)[..], 6));
+    assert_eq!((by_default, DEFAULT_ROUNDS), (&[77, 153].map(red)[..], 6));
     let mut made = |rounds| {
         let made = quantize_refined(&pixels, rounds, &mut work, &mut entries[..2]);
         made.unwrap().to_vec()
     };
-    assert_eq!(made(0), [90, 165].map(gray));
-    assert_eq!(made(1), [77, 153].map(gray));
-    assert_eq!(made(255), [77, 153].map(gray));
+    assert_eq!(made(0), [90, 165].map(red));
+    assert_eq!(made(1), [77, 153].map(red));
+    assert_eq!(made(255), [77, 153].map(red));
     let alphas = [130, 100, 160, 60, 170, 70, 10];
-    let alphas = alphas.map(|v| Srgba8::new(v, v, v, 50 + u8::from(v != 10)));
+    let alphas = alphas.map(|v| Srgba8::new(v, 0, 0, 50 + u8::from(v != 10)));
     let made = quantize_refined_alpha(&alphas, 51, 1, &mut work, &mut entries[..2]).unwrap();
-    assert_eq!(made, [77, 153].map(gray));
+    assert_eq!(made, [77, 153].map(red));
     let made = quantize_alpha(&alphas, 51, &mut work, &mut entries[..2]).unwrap();
-    assert_eq!(made, [77, 153].map(gray));
+    assert_eq!(made, [77, 153].map(red));
     let before = (work, entries);
     let mut large = [gray(5); 257];
     assert_eq!(
@@ -165,6 +166,21 @@ fn refined_tables() {
     let short = quantize_refined(&few, 3, &mut work[..3], &mut entries);
     assert_eq!(short, Err(Error::Length));
     assert_eq!((work, entries), before);
+}
+
+/// By hand: 60, 70, 100 and 130 make 90, and 160 and 170 make 165, with an error of 3050 in a channel. With 130
+/// beside 160 and 170 it is 1734, and no other parts have less. Rounds don't change that.
+#[test]
+fn least_tables_of_grays() {
+    let gray = |v| Srgb8::new(v, v, v);
+    let pixels = [130, 100, 160, 60, 170, 70].map(gray);
+    let (mut work, mut entries) = ([gray(0); 6], [gray(0); 2]);
+    for rounds in [0, 1, 255] {
+        let made = quantize_refined(&pixels, rounds, &mut work, &mut entries).unwrap();
+        let mut levels: Vec<u8> = made.iter().map(|color| color.g).collect();
+        levels.sort_unstable();
+        assert_eq!(levels, [77, 153]);
+    }
 }
 
 #[test]
