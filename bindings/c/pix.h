@@ -777,8 +777,8 @@ static inline pix_status pix_unpack_row(uint32_t bits, const uint8_t *bytes, siz
  * Two pixels are compared as they are seen, over black and over white, in 8 bits. Over black a
  * color is its product with the alpha, rounded to the nearest. Over white it is that and 255 less
  * the alpha. The distance of two pixels is the sum of the squares of their six differences. So the
- * color of a transparent pixel does not count, and if all are opaque each call does the same as the
- * one without _rgba. */
+ * color of a transparent pixel does not count. If all are opaque, each call does the same as the one
+ * without _rgba; of grays alone only pix_quantize_refined makes the table of least error. */
 
 /* A table of `len` colors with an alpha, from 1 to 256. */
 typedef struct { const pix_srgba8 *entries; size_t len; } pix_table_rgba;

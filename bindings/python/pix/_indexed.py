@@ -221,8 +221,8 @@ def quantize_rgba(pixels: Buffer, length: SupportsIndex = 256, rounds: SupportsI
     their look over black and over white. So all transparent pixels are one color, and the color of a nearly transparent pixel
     hardly counts. If there are at most `length` distinct looks, the table has the first pixel of each, unchanged and in order.
     Otherwise, it is made by cuts and refined by `rounds` rounds, like a table of quantize(). Then an entry whose alpha is at
-    least 250 becomes opaque if more than half of its pixels are. For opaque pixels it has the same colors as quantize(). It
-    allocates work memory of four bytes a pixel.
+    least 250 becomes opaque if more than half of its pixels are. For opaque pixels it has the same colors as quantize(), which
+    alone makes the table of least error for grays. It allocates work memory of four bytes a pixel.
 
     Raises PixError if `length` is not from 1 to 256, or the pixels don't fit.
 
