@@ -95,10 +95,6 @@ pub(crate) fn pixel_sums(n: usize, sums: &[u32], weights: &[u32]) -> [u64; 8]
     ensures { (c : ℕ) → c < n → slice_index result c
         ≡ total (length weights.now) (row_term weights.now (slice_index sums.now) n c) }
 {
-    if n == 4 {
-        let four = sum_lanes(sums, weights).to_array();
-        return [four[0], four[1], four[2], four[3], 0, 0, 0, 0];
-    }
     let mut to = [0u64; 8];
     sum_pixels(&mut to[..n], sums, weights);
     to
