@@ -1,3 +1,4 @@
+mod Blocks
 mod Calls
 mod Drawn
 mod Draws

@@ -1,31 +1,43 @@
 -- A row of pixels, by weights that may be negative, from the sums of its columns.
-use Rattle.std.specs.Prelude.{◌≡◌, ℕ, ℤ, pos, ◌-ℤ◌, ◌*ℤ◌, ◌+◌, ◌-◌, ◌*◌, ◌^◌, ◌<◌, ◌≤◌, List, [], length, map, slice_index, refl}
+use Rattle.std.specs.Prelude.{◌≡◌, ℕ, ℤ, zero, suc, pos, ◌-ℤ◌, ◌*ℤ◌, ◌+◌, ◌-◌, ◌*◌, ◌^◌, ◌<◌, ◌≤◌, List, [], length, map, slice_index, refl}
 use Rattle.std.proofs.Common.{get_or, take, drop, arith, ap, sym, ◌∙◌}
 use Rattle.std.proofs.Math.Nat.{mul-le-mul_right, mul-le-mul}
 use Rattle.pix_scale.specs.Axis.{total, channel_at}
 use Rattle.pix_scale.specs.Table.{flat, row_term, tap}
 use Rattle.pix_scale.specs.Signed.{Taps, total_of, sum_by, cut_by}
 use Rattle.pix_scale.specs.SignedTable.{left_at, taps_at, taps_of}
-use Rattle.pix_scale.proofs.Drawn.{value_of_rest}
+use Rattle.pix_scale.proofs.Drawn.{value_of_rest, sub_times}
 use Rattle.pix_scale.proofs.Flat.{flat_at}
 use Rattle.pix_scale.proofs.Sums.{total_same, sum_small, at_of_part, length_part, tap_total}
 use Rattle.pix_scale.proofs.SignedSums.{total_left, whole_total, total_of_same, cut_same}
 use Rattle.pix_el.specs.Pixel.{Layout}
 
--- the sums of rows at a place are those of a column of the picture
-pub rows_read : {D : Type 0} (r : D → List ℕ) (count stride first : ℕ) (from : List D) (weights : List ℕ) (n u ch place : ℕ) → ch < count → place ≡ u * count + ch
-    → total n (row_term weights (flat count (map r (take (length from - first * stride) (drop (first * stride) from)))) (stride * count) place)
+-- the sums of rows at a place are those of a column of the picture, from column `low` on
+pub rows_read : {D : Type 0} (r : D → List ℕ) (count stride first low : ℕ) (from : List D) (weights : List ℕ) (n u ch : ℕ) → low ≤ u → ch < count
+    → total n (row_term weights (flat count (map r (take (length from - (first * stride + low)) (drop (first * stride + low) from)))) (stride * count) ((u - low) * count + ch))
     ≡ total n (λ v. get_or weights v 0 * channel_at (map r from) stride ch u (first + v))
-rows_read r count stride first from weights n u ch place lt is =
-    let start : ℕ = first * stride in
+rows_read r count stride first low from weights n u ch le lt =
+    let start : ℕ = first * stride + low in
+    let place : ℕ = (u - low) * count + ch in
     let rest : List (List ℕ) = map r (take (length from - start) (drop start from)) in
     total_same n (row_term weights (flat count rest) (stride * count) place) (λ v. get_or weights v 0 * channel_at (map r from) stride ch u (first + v)) (λ v lv.
-    let p : ℕ = v * stride + u in
-    let e : v * (stride * count) + place ≡ p * count + ch = omega (arith, is) in
+    let p : ℕ = v * stride + (u - low) in
+    let e : v * (stride * count) + place ≡ p * count + ch = omega arith in
     let there : start + p ≡ (first + v) * stride + u = omega arith in
     ap (λ z. get_or weights v 0 * z)
     (ap (flat count rest) e ∙ flat_at count p ch rest lt
     ∙ ap (λ l. get_or l ch 0) (value_of_rest r from start p ∙ ap (λ q. get_or (map r from) q []) there)))
+
+-- the sums of the columns of a window
+pub window_size : (sums : List ℕ) (low high places n count : ℕ) → n ≡ count → low ≤ high → high ≤ places → length sums ≡ places * count
+    → length (take (high * n - low * n) (drop (low * n) sums)) ≡ (high - low) * count
+window_size sums low high places n count same order within long =
+    let a : low * n ≡ low * count = ap (λ (z : ℕ). low * z) same in
+    let b : high * n ≡ high * count = ap (λ (z : ℕ). high * z) same in
+    let s = sub_times low high count order in
+    let few = mul-le-mul_right count within in
+    let cut = length_part sums (low * n) (high * n - low * n) (omega (arith, a, b, s, few, long)) in
+    omega (arith, cut, a, b, s)
 
 -- what is left of the sums is the sum by both rows of weights
 pub left_is : (firsts plus minus down_plus down_minus : List ℕ) (taps i first n c : ℕ) (sums : List ℕ) (get : ℕ → ℕ → ℕ)
@@ -106,6 +118,11 @@ row_taps firsts plus minus taps y m q e f a b =
           let n = at_of_part minus (y * taps) q k (omega (arith, long)) in
           rw (p, n) refl;
     }
+
+-- a row of weights that add up to something has some
+pub some_weights : (n : ℕ) (f g : ℕ → ℕ) → total n f ≡ 16384 + total n g → 0 < n
+some_weights zero f g e = absurd (omega (arith, e))
+some_weights (suc n) f g e = omega arith
 
 -- the weights of a row of a table add up as it says
 pub part_adds : (plus minus : List ℕ) (taps y m q : ℕ) → m ≡ taps → q ≡ taps → y * taps + taps ≤ length plus → y * taps + taps ≤ length minus

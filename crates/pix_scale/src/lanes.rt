@@ -69,3 +69,31 @@ pub(crate) fn sum_narrow(sums: &[u32], weights: &[u32]) -> u32x4
     }
     acc
 }
+
+/// Returns the sums of pixels of four channels that follow each other, each pixel times its weight,
+/// by two rows of weights.
+///
+/// Condition: there is a pixel for each weight, and the weights of a row add up to less than 2^31.
+#[inline(always)]
+pub(crate) fn sum_both(sums: &[u32], plus: &[u32], minus: &[u32]) -> (u64x4, u64x4)
+    requires same { length minus.now ≡ length plus.now }
+    requires inside { (k : ℕ) → k < length plus.now → k * 4 + 4 ≤ length sums.now }
+    requires plus_fits { total (length plus.now) (slice_index plus.now) < 2 ^ 31 }
+    requires minus_fits { total (length minus.now) (slice_index minus.now) < 2 ^ 31 }
+    ensures lanes { length result.0 ≡ 4 }
+    ensures taken_lanes { length result.1 ≡ 4 }
+    ensures added { (c : ℕ) → c < 4 → slice_index result.0 c
+        ≡ total (length plus.now) (row_term plus.now (slice_index sums.now) 4 c) }
+    ensures taken { (c : ℕ) → c < 4 → slice_index result.1 c
+        ≡ total (length minus.now) (row_term minus.now (slice_index sums.now) 4 c) }
+{
+    let mut added = u64x4::splat(0);
+    let mut taken = u64x4::splat(0);
+    for k in 0..plus.len() {
+        let start = k * 4;
+        let pixel = &sums[start..start + 4];
+        added = add_lanes(added, pixel, plus[k]);
+        taken = add_lanes(taken, pixel, minus[k]);
+    }
+    (added, taken)
+}

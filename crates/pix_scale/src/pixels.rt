@@ -52,7 +52,7 @@ fn mean<C: Channel>(sum: u64, by: Divisor) -> C
     requires { sum ≤ C.max * by.whole }
     ensures { C.number result ≡ nearest C.max (pos sum) (pos by.whole) }
 {
-    C::from_ratio(by.nearest(sum) as i64, 1)
+    C::from_ratio(i64::from(by.nearest(sum)), 1)
 }
 
 /// Returns the channel nearest to a sum over the whole, ties up, in 32 bits. Condition: the sum is

@@ -39,7 +39,8 @@ fn new_pixel<P: Pixel, D: Stored<P>>(sums: &[u32], weights: &[u32], by: Divisor)
 ///
 /// Condition: the pixels lie in `sums`, the weights of a row add up to less than 2^31, and the sums
 /// are at most the maximum times the whole.
-fn write_row<P: Pixel, D: Stored<P>>(
+#[inline(always)]
+fn write_means<P: Pixel, D: Stored<P>>(
     to: &mut [D],
     sums: &[u32],
     firsts: &[u32],
@@ -72,6 +73,47 @@ fn write_row<P: Pixel, D: Stored<P>>(
             by,
         );
     }
+}
+
+/// Writes a row of pixels. Pixel `i` is the mean of `taps` pixels of `sums` from that of `firsts`
+/// on, by row `i` of a table of weights.
+///
+/// Condition: the pixels lie in `sums`, the weights of a row add up to less than 2^31, and the sums
+/// are at most the maximum times the whole.
+fn write_row<P: Pixel, D: Stored<P>>(
+    to: &mut [D],
+    sums: &[u32],
+    firsts: &[u32],
+    weights: &[u32],
+    taps: usize,
+    by: Divisor,
+)
+    requires few { P.layout.count ≤ 8 }
+    requires long { length to.old ≡ length firsts.now }
+    requires table { length weights.now ≡ length firsts.now * taps }
+    requires inside { (i : ℕ) → i < length firsts.now
+        → (slice_index firsts.now i + taps) * P.layout.count ≤ length sums.now }
+    requires fits { (i : ℕ) → i < length firsts.now
+        → total taps (tap weights.now taps i) < 2 ^ 31 }
+    requires bound { (i c : ℕ) → i < length firsts.now → c < P.layout.count → total taps
+        (pixel_term weights.now taps i sums.now P.layout.count (slice_index firsts.now i) c)
+        ≤ P.Chan.max * by.whole }
+    ensures { (i c : ℕ) → i < length firsts.now → c < P.layout.count
+        → slice_index (slice_index_or (map D.reads to.new) i []) c ≡ nearest P.Chan.max
+        (pos (total taps
+        (pixel_term weights.now taps i sums.now P.layout.count (slice_index firsts.now i) c)))
+        (pos by.whole) }
+{
+    // The compiler makes a loop of its own for each of the commonest numbers.
+    if taps == 1 {
+        write_means::<P, D>(to, sums, firsts, weights, taps, by);
+        return;
+    }
+    if taps == 2 {
+        write_means::<P, D>(to, sums, firsts, weights, taps, by);
+        return;
+    }
+    write_means::<P, D>(to, sums, firsts, weights, taps, by);
 }
 
 /// Writes pixels of a row of a picture at another size.

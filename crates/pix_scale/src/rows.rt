@@ -23,11 +23,57 @@ fn add_channels<C: Channel>(sums: &mut [u32], row: &[C], weight: u32)
     }
 }
 
-/// Adds each channel of a row, times a weight, to the sum at its place.
+/// Adds each channel of eight pixels, times a weight, to the sum at its place.
 ///
 /// Condition: there is a sum for each channel, and no sum passes 32 bits.
 #[inline(always)]
-fn add_row<P: Pixel, D: Stored<P>>(sums: &mut [u32], row: &[D], weight: u32)
+fn add_eight<P: Pixel, D: Stored<P>>(sums: &mut [u32], row: &[D], weight: u32)
+    requires some { 0 < P.layout.count }
+    requires few { P.layout.count ≤ 4 }
+    requires eight { length row.now ≡ 8 }
+    requires long { length sums.old ≡ 8 * P.layout.count }
+    requires fits { (x : ℕ) → x < length sums.old
+        → slice_index sums.old x + weight * P.Chan.max < 2 ^ 32 }
+    ensures { (x : ℕ) → x < length sums.old → slice_index sums.new x
+        ≡ slice_index sums.old x + weight * flat P.layout.count (map D.reads row.now) x }
+{
+    let count = P::default().channels().len();
+    let mut own = [P::Chan::MIN; 32];
+    D::load_channels(row, &mut own[..8 * count]);
+    add_channels(sums, &own[..8 * count], weight);
+}
+
+/// Adds each channel of blocks of eight pixels, times a weight, to the sum at its place.
+///
+/// Condition: there is a sum for each channel, and no sum passes 32 bits.
+#[inline(always)]
+fn add_blocks<P: Pixel, D: Stored<P>>(sums: &mut [u32], row: &[D], weight: u32, blocks: usize)
+    requires some { 0 < P.layout.count }
+    requires few { P.layout.count ≤ 4 }
+    requires blocks { length row.now ≡ blocks * 8 }
+    requires long { length sums.old ≡ length row.now * P.layout.count }
+    requires fits { (x : ℕ) → x < length sums.old
+        → slice_index sums.old x + weight * P.Chan.max < 2 ^ 32 }
+    ensures { (x : ℕ) → x < length sums.old → slice_index sums.new x
+        ≡ slice_index sums.old x + weight * flat P.layout.count (map D.reads row.now) x }
+{
+    let count = P::default().channels().len();
+    for b in 0..blocks {
+        let at = b * 8;
+        let start = at * count;
+        add_eight::<P, D>(
+            &mut sums[start..start + 8 * count],
+            &row[at..at + 8],
+            weight,
+        );
+    }
+}
+
+/// Adds each channel of pixels, times a weight, to the sum at its place.
+///
+/// Condition: there is a sum for each channel, and no sum passes 32 bits.
+#[inline(always)]
+fn add_pixels<P: Pixel, D: Stored<P>>(sums: &mut [u32], row: &[D], weight: u32)
     requires long { length sums.old ≡ length row.now * P.layout.count }
     requires fits { (x : ℕ) → x < length sums.old
         → slice_index sums.old x + weight * P.Chan.max < 2 ^ 32 }
@@ -43,6 +89,33 @@ fn add_row<P: Pixel, D: Stored<P>>(sums: &mut [u32], row: &[D], weight: u32)
             weight,
         );
     }
+}
+
+/// Adds each channel of a row, times a weight, to the sum at its place.
+///
+/// Condition: there is a sum for each channel, and no sum passes 32 bits.
+#[inline(always)]
+fn add_row<P: Pixel, D: Stored<P>>(sums: &mut [u32], row: &[D], weight: u32)
+    requires some { 0 < P.layout.count }
+    requires long { length sums.old ≡ length row.now * P.layout.count }
+    requires fits { (x : ℕ) → x < length sums.old
+        → slice_index sums.old x + weight * P.Chan.max < 2 ^ 32 }
+    ensures { (x : ℕ) → x < length sums.old → slice_index sums.new x
+        ≡ slice_index sums.old x + weight * flat P.layout.count (map D.reads row.now) x }
+{
+    if weight == 0 {
+        return;
+    }
+    let count = P::default().channels().len();
+    if count > 4 {
+        add_pixels::<P, D>(sums, row, weight);
+        return;
+    }
+    let blocks = row.len() / 8;
+    let (at, end) = (blocks * 8, row.len());
+    let (start, all) = (at * count, sums.len());
+    add_blocks::<P, D>(&mut sums[0..start], &row[0..at], weight, blocks);
+    add_pixels::<P, D>(&mut sums[start..all], &row[at..end], weight);
 }
 
 /// Writes the sums of the channels of rows that begin a stride apart, each row times its weight.

@@ -40,6 +40,7 @@ fn draw_tables<P: Pixel, D: Stored<P>>(
     requires few { P.layout.count ≤ 8 }
     requires across { IsSide Point source.width view.across n m }
     requires down { IsSide Point source.height view.down rows_n rows_m }
+    requires width { 0 < rows.width }
     requires left { view.left + rows.width ≤ view.across }
     requires top { view.top + rows.height ≤ view.down }
     requires source { (v : ℕ) → v < source.height
@@ -119,6 +120,7 @@ fn draw_split<P: Pixel, D: Stored<P>>(
     requires few { P.layout.count ≤ 8 }
     requires across { IsSide Point source.width view.across across.n across.m }
     requires down { IsSide Point source.height view.down down.n down.m }
+    requires width { 0 < rows.width }
     requires left { view.left + rows.width ≤ view.across }
     requires top { view.top + rows.height ≤ view.down }
     requires source { (v : ℕ) → v < source.height

@@ -2,10 +2,11 @@
 ghost use Rattle.std.specs.Prelude.{◌≡◌, ℕ, pos, ◌-ℤ◌, ◌+◌, ◌*◌, ◌^◌, ◌<◌, ◌≤◌, List, [], length, map, slice_index, slice_index_or};
 ghost use Rattle.pix_chan.specs.Nearest.{nearest};
 ghost use Rattle.pix_scale.specs.Axis.{total};
-ghost use Rattle.pix_scale.specs.Table.{pixel_term, tap};
+ghost use Rattle.pix_scale.specs.Table.{row_term, pixel_term, tap};
 ghost use Rattle.pix_scale.specs.Signed.{top_by, cut_by};
 ghost use Rattle.pix_scale.specs.SignedTable.{left, left_at};
 
+use crate::lanes::sum_both;
 use crate::pixels::pixel_sums;
 use pix_chan::chan::Channel;
 use pix_el::el::Pixel;
@@ -27,6 +28,33 @@ fn cut<C: Channel>(plus: u64, minus: u64, top: C) -> C
     } else {
         top
     }
+}
+
+/// Returns the sums of pixels of `n` channels that follow each other, each pixel times its weight,
+/// by two rows of weights.
+///
+/// Condition: there is a pixel for each weight, and the weights of a row add up to less than 2^31.
+#[inline(always)]
+fn both_sums(n: usize, sums: &[u32], plus: &[u32], minus: &[u32]) -> ([u64; 8], [u64; 8])
+    requires few { n ≤ 8 }
+    requires same { length minus.now ≡ length plus.now }
+    requires inside { (k : ℕ) → k < length plus.now → k * n + n ≤ length sums.now }
+    requires plus_fits { total (length plus.now) (slice_index plus.now) < 2 ^ 31 }
+    requires minus_fits { total (length minus.now) (slice_index minus.now) < 2 ^ 31 }
+    ensures added { (c : ℕ) → c < n → slice_index result.0 c
+        ≡ total (length plus.now) (row_term plus.now (slice_index sums.now) n c) }
+    ensures taken { (c : ℕ) → c < n → slice_index result.1 c
+        ≡ total (length minus.now) (row_term minus.now (slice_index sums.now) n c) }
+{
+    if n == 4 {
+        let both = sum_both(sums, plus, minus);
+        let (added, taken) = (both.0.to_array(), both.1.to_array());
+        return (
+            [added[0], added[1], added[2], added[3], 0, 0, 0, 0],
+            [taken[0], taken[1], taken[2], taken[3], 0, 0, 0, 0],
+        );
+    }
+    (pixel_sums(n, sums, plus), pixel_sums(n, sums, minus))
 }
 
 /// Returns where a pixel is cut: at the new alpha, or else at the maximum. Condition: the sums fit.
@@ -62,8 +90,7 @@ pub(crate) fn cut_pixel<P: Pixel, D: Stored<P>>(sums: &[u32], plus: &[u32], minu
 {
     let mut own = [P::Chan::MIN; 8];
     let n = P::default().channels().len();
-    let added = pixel_sums(n, sums, plus);
-    let taken = pixel_sums(n, sums, minus);
+    let (added, taken) = both_sums(n, sums, plus, minus);
     let top = top_of::<P>(&added, &taken);
     for c in 0..n {
         own[c] = cut(added[c], taken[c], top);

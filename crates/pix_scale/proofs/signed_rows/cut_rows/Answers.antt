@@ -6,7 +6,7 @@ use Rattle.pix_scale.specs.Signed.{cut_by, sum_by}
 use Rattle.pix_scale.specs.SignedTable.{taps_at, taps_of}
 use Rattle.pix_scale.proofs.Sums.{length_part, tap_total}
 use Rattle.pix_scale.proofs.Written.{rows_none, rows_more}
-use Rattle.pix_scale.proofs.SignedRows.{same_cut, same_taps, row_taps, part_adds}
+use Rattle.pix_scale.proofs.SignedRows.{same_cut, same_taps, row_taps, part_adds, some_weights}
 use Rattle.pix_scale.proofs.signed_rows.cut_rows.Goals as goal
 
 pub loop-y-init : goal.loop-y-init
@@ -31,6 +31,15 @@ cut_row-requires-clause-down_adds_up g c =
     let row = row_fits y taps (length c.args.lines.now) taps (omega arith) (omega arith) in
     let m : ℕ = y * taps + taps - y * taps in
     (part_adds c.args.lines_plus.now c.args.lines_minus.now taps y m m (omega arith) (omega arith) (omega (arith, row, c.requires.down.long_plus)) (omega (arith, row, c.requires.down.long_minus))
+    (c.requires.down.adds_up y (omega arith)) (c.requires.down.small y (omega arith))).0
+
+pub cut_row-requires-clause-down_some : goal.cut_row-requires-clause-down_some
+cut_row-requires-clause-down_some g c =
+    let y = c.loop-y.y in
+    let taps = c.args.lines_taps in
+    let row = row_fits y taps (length c.args.lines.now) taps (omega arith) (omega arith) in
+    let m : ℕ = y * taps + taps - y * taps in
+    some_weights _ _ _ (part_adds c.args.lines_plus.now c.args.lines_minus.now taps y m m (omega arith) (omega arith) (omega (arith, row, c.requires.down.long_plus)) (omega (arith, row, c.requires.down.long_minus))
     (c.requires.down.adds_up y (omega arith)) (c.requires.down.small y (omega arith))).0
 
 pub cut_row-requires-clause-down_small : goal.cut_row-requires-clause-down_small

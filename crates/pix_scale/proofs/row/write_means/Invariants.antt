@@ -1,8 +1,8 @@
--- What holds at each turn of the loop over `i` in `write_row`.
+-- What holds at each turn of the loop over `i` in `write_means`.
 use Rattle.std.proofs.Common.{map}
 use Rattle.pix_scale.proofs.Terms.{row_at}
 use Rattle.pix_scale.proofs.Written.{Written}
-use Rattle.pix_scale.proofs.row.write_row.Given as goal
+use Rattle.pix_scale.proofs.row.write_means.Given as goal
 
 -- the pixels below i are written
 abbrev pub invariant-loop-i : goal.invariant-loop-i

@@ -5,7 +5,7 @@ use Rattle.std.proofs.lemmas.List.{length-map, map-set}
 use Rattle.std.proofs.lemmas.Nat.{row_fits}
 use Rattle.pix_scale.proofs.Written.{written_none, written_more}
 use Rattle.pix_scale.proofs.Sums.{tap_total, part_by, length_part}
-use Rattle.pix_scale.proofs.row.write_row.Goals as goal
+use Rattle.pix_scale.proofs.row.write_means.Goals as goal
 
 pub new_pixel-requires-clause-fits : goal.new_pixel-requires-clause-fits
 new_pixel-requires-clause-fits g c =
