@@ -524,12 +524,14 @@ static inline uint64_t pix_repeat_image(pix_command *commands, uint64_t room, pi
  * below 0: an alpha is cut at 0 and at the greatest channel, and a color at 0 and at the new alpha. A
  * side that keeps its length is not filtered by them. */
 typedef enum {
-    PIX_FILTER_NEAREST = 0, /* the pixel under its center: for sprites */
-    PIX_FILTER_AREA = 1,    /* the mean of the area that it covers: for photographs, and for sharp enlarged pixels */
-    PIX_FILTER_LINEAR = 2,  /* by the distance of centers, as far as one pixel, of the source or of the result: smooth */
+    /* made by tools/names: filters */
+    PIX_FILTER_NEAREST = 0,     /* the pixel under its center: for sprites */
+    PIX_FILTER_AREA = 1,        /* the mean of the area that it covers: for photographs, and for sharp enlarged pixels */
+    PIX_FILTER_LINEAR = 2,      /* by the distance of centers, as far as one pixel, of the source or of the result: smooth */
     PIX_FILTER_CATMULL_ROM = 3, /* a cubic as far as two pixels, with weights below 0: sharp */
     PIX_FILTER_MITCHELL = 4,    /* such a cubic that is softer, with less of a rim around edges */
     PIX_FILTER_LANCZOS = 5      /* a windowed sine as far as three pixels: the sharpest */
+    /* made by tools/names: end */
 } pix_filter;
 
 /* The sides of a picture. */
@@ -539,7 +541,9 @@ typedef struct { uint32_t width, height; } pix_size;
 typedef struct { uint32_t x, y; } pix_point;
 
 /* How many filters there are. A number from there on is PIX_BAD_FILTER. */
+/* made by tools/names: last filter */
 #define PIX_FILTER_COUNT (PIX_FILTER_LANCZOS + 1)
+/* made by tools/names: end */
 
 /* Returns how many words of work memory pix_scale takes for a window of the size `to`, of a new
  * picture of `size`, made of one of the size `from`. It is 0 where pix_scale returns PIX_BAD_FILTER,

@@ -15,10 +15,12 @@ export const Op: Readonly<Record<OpName, number>>;
 export const Format: Readonly<Record<string, number>>;
 /** A format, by its number in `Format` or by its name. */
 export type AnyFormat = string | number;
-/** How a pixel of a picture at another size is made: of the pixel under its center, as the mean of the area that it covers, or by
- * the distance of centers. */
+/** How a pixel of a picture at another size is made of those of the source, by a name or a number: `Nearest` is for sprites,
+ * `Area` for photographs, and the last three are sharp. */
 export type AnyFilter = FilterName | number;
+// made by tools/names: filters
 export type FilterName = 'Nearest' | 'Area' | 'Linear' | 'CatmullRom' | 'Mitchell' | 'Lanczos';
+// made by tools/names: end
 export const Filter: Readonly<Record<FilterName, number>>;
 /** The version of this package. */
 export const VERSION: string;

@@ -211,12 +211,14 @@ class Filter(IntEnum):
     0 and at the greatest channel, and a color at 0 and at the new alpha. A side that keeps its length is not filtered by them.
     """
 
+    # made by tools/names: filters
     NEAREST = 0  # the pixel under its center: for sprites
     AREA = 1  # the mean of the area that it covers: for photographs, and for sharp enlarged pixels
     LINEAR = 2  # by the distance of centers, as far as one pixel, of the source or of the result: smooth
     CATMULL_ROM = 3  # a cubic as far as two pixels, with weights below 0: sharp
     MITCHELL = 4  # such a cubic that is softer, with less of a rim around edges
     LANCZOS = 5  # a windowed sine as far as three pixels: the sharpest
+    # made by tools/names: end
 
     @classmethod
     def _missing_(cls, value: object) -> None:

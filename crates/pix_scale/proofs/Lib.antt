@@ -4,6 +4,7 @@ mod Draws
 mod Flat
 mod Kernels
 mod LaneSums
+mod Mirrors
 mod Narrow
 mod Parts
 mod Places

@@ -40,7 +40,7 @@ times_sum x y z =
     let e : up s + (down x + down y) ≡ down s + (up x + up y) = omega (arith, ints) in
     omega (arith, ints, ap (λ k. k * up z) e, ap (λ k. k * down z) e)
 
-total_times : (n : ℕ) (f : ℕ → ℤ) (z : ℤ) → total_of n (λ k. f k *ℤ z) ≡ total_of n f *ℤ z
+pub total_times : (n : ℕ) (f : ℕ → ℤ) (z : ℤ) → total_of n (λ k. f k *ℤ z) ≡ total_of n f *ℤ z
 total_times zero f z = omega (arith, ints)
 total_times (suc n) f z = ap (λ s. s +ℤ f n *ℤ z) (total_times n f z) ∙ sym (times_sum (total_of n f) (f n) z)
 

@@ -1,12 +1,12 @@
 //! The laws of pictures at another size: what holds of each, whatever the picture is.
-ghost use Rattle.std.specs.Prelude.{◌≡◌, ℕ, ℤ, pos, ◌*◌, ◌/◌, ◌<◌, ◌≤◌};
+ghost use Rattle.std.specs.Prelude.{◌≡◌, ◌≢◌, ℕ, ℤ, pos, ◌+◌, ◌-◌, ◌*◌, ◌/◌, ◌<◌, ◌≤◌};
 ghost use Rattle.pix_el.specs.Pixel.{Layout};
 ghost use Rattle.pix_scale.specs.Signed.{Taps, total_of, sum_by, cut_by};
 ghost use Rattle.pix_scale.specs.SignedCall.{signed_taps};
 ghost use Rattle.pix_scale.specs.declared.filter.SignedFilter.{SignedFilter};
-ghost use Rattle.pix_scale.specs.Axis.{Axis, IsAxis, axis, scaled};
+ghost use Rattle.pix_scale.specs.Axis.{Axis, IsAxis, axis, lowest, scaled, total};
 ghost use Rattle.pix_scale.specs.declared.filter.Filter.{Filter};
-ghost use Rattle.pix_scale.specs.declared.filter.Filter.TheVariants.{Nearest};
+ghost use Rattle.pix_scale.specs.declared.filter.Filter.TheVariants.{Nearest, Area, Linear};
 
 /// States what holds of every picture at another size. It does nothing.
 pub fn laws()
@@ -37,6 +37,20 @@ pub fn laws()
         → scaled max (axis Nearest width (k * width)) (axis Nearest height (l * height)) f x y
         ≡ f (x / k) (y / l) }
 
+    // By areas, each place of the old side counts as much as any other for all new ones together.
+    ensures areas { (n m j : ℕ) → 0 < n → 0 < m → n ≤ 65535 → j < n
+        → total m (λ i. (axis Area n m).weight i j) ≡ lowest m n }
+
+    // A picture whose rows became columns before is the new one, turned the same way.
+    ensures turned { (max : ℕ) (across down : Axis) (f : ℕ → ℕ → ℕ) (x y : ℕ)
+        → scaled max across down f x y ≡ scaled max down across (λ v u. f u v) y x }
+
+    // By areas, and by linear where it enlarges, a picture mirrored before is mirrored after.
+    ensures mirrored { (max : ℕ) (filter : Filter) (n m : ℕ) (down : Axis) (f : ℕ → ℕ → ℕ)
+        (x y z : ℕ) → 0 < n → n ≤ 65535 → filter ≢ Nearest → (filter ≡ Linear → n ≤ m)
+        → x + z + 1 ≡ m → scaled max (axis filter n m) down f z y
+        ≡ scaled max (axis filter n m) down (λ u v. f (n - 1 - u) v) x y }
+
     // By weights that may be negative too, a color is at most the alpha: what is premultiplied
     // stays so.
     ensures premultiplied { (layout : Layout) (sums : ℕ → ℤ) (c : ℕ)
@@ -50,6 +64,10 @@ pub fn laws()
         → (layout.alpha < layout.count → a layout.alpha ≤ layout.max)
         → (layout.alpha < layout.count → a c ≤ a layout.alpha)
         → cut_by layout (λ ch. sum_by across down (λ u v. a ch)) c ≡ a c }
+
+    // By such weights too, a picture whose rows became columns before is the new one, turned.
+    ensures signed_turned { (across down : Taps) (get : ℕ → ℕ → ℕ)
+        → sum_by across down get ≡ sum_by down across (λ v u. get u v) }
 
     // By any such filter, the weights add up to 2^14.
     ensures signed_weights { (filter : SignedFilter) (n m i : ℕ) → 0 < n → 0 < m → n ≤ 65535

@@ -15,6 +15,7 @@ use pix_sys::{check_library, status};
 #[non_exhaustive]
 #[derive(Clone, Copy, Debug, PartialEq, Eq, Hash)]
 pub enum Filter {
+    // made by tools/names: filters
     /// The pixel under its center: for sprites.
     Nearest = 0,
     /// The mean of the area that it covers: for photographs, and for sharp enlarged pixels.
@@ -27,10 +28,12 @@ pub enum Filter {
     Mitchell = 4,
     /// A windowed sine as far as three pixels: the sharpest.
     Lanczos = 5,
+    // made by tools/names: end
 }
 
 impl Filter {
     /// All filters, in the order of their numbers.
+    // made by tools/names: all filters
     pub const ALL: [Filter; 6] = [
         Filter::Nearest,
         Filter::Area,
@@ -39,6 +42,7 @@ impl Filter {
         Filter::Mitchell,
         Filter::Lanczos,
     ];
+    // made by tools/names: end
 }
 
 /// Answers a status.
