@@ -596,8 +596,8 @@ typedef struct {
 
 /* Returns how many words of work memory pix_scale_by takes for an image of the size `to`, made of one
  * of the size `from`, by tables of `taps` weights for a column and `row_taps` for a row. It is 0
- * where pix_scale_by returns PIX_NO_SIDE or PIX_TOO_LARGE for this source, or where a table has more
- * weights for a place than the source has places, and else at least 1. */
+ * if pix_scale_by returns PIX_NO_SIDE or PIX_TOO_LARGE for this source, or if a table has more weights
+ * for a place than the source has places, and else at least 1. */
 static inline size_t pix_scale_by_work(pix_size to, pix_size from, uint32_t taps, uint32_t row_taps);
 
 /* Writes a picture at another size by two tables of the caller's own: for a filter that pix_filter
