@@ -1675,8 +1675,8 @@ PIX_PARTS_(_graya8, pix_graya8, PIX_FORMAT_GRAYA8P)
             return status;                                                                                             \
         return (pix_status)pix_raw_scale_by##S(                                                                        \
             PIX_SLICE_(PIXEL, to.pixels, extent), to.width, to.height, stride,                                         \
-            PIX_SLICE_(const PIXEL, from.pixels, count), from.width, from.height, apart,                               \
-            PIX_SLICE_(const uint32_t, across.firsts, across.count), across.taps,                                      \
+            PIX_SLICE_(const PIXEL, from.pixels, count), from.width, from.height,                                      \
+            apart, PIX_SLICE_(const uint32_t, across.firsts, across.count), across.taps,                               \
             PIX_SLICE_(const int32_t, across.weights, weights),                                                        \
             PIX_SLICE_(const uint32_t, down.firsts, down.count), down.taps,                                            \
             PIX_SLICE_(const int32_t, down.weights, row_weights), PIX_SLICE_(uint32_t, work, words));                  \
