@@ -9,6 +9,7 @@ STACK = 24
 TYPES = {
     "u8": ("u8", "uint8_t", "u8", "u8", 1),
     "u32": ("u32", "uint32_t", "u32", "u32", 4),
+    "i32": ("i32", "int32_t", "i32", "", 4),
     "u64": ("u64", "uint64_t", "u64", "", 0),
     "i64": ("i64", "int64_t", "i64", "i64", 0),
     "usize": ("usize", "size_t", "usize", "size", 0),
@@ -25,6 +26,7 @@ TYPES = {
 LENGTHS = {
     "pixels": "pixel_count", "commands": "command_count", "entries": "len", "indices": "index_count", "bytes": "byte_count", "counts": "len",
     "src": "src_len", "dst": "dst_len", "source": "source_count", "work": "work_len",
+    "firsts": "first_count", "weights": "weight_count", "row_firsts": "row_first_count", "row_weights": "row_weight_count",
 }  # fmt: skip
 ARGUMENT = re.compile(r"(\w+): (&mut |&|)(\[?)(\w+)\]?")
 

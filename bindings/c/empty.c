@@ -61,6 +61,12 @@ LIST_(_graya8, pix_matte)
         memset(&pixel, 0, sizeof pixel);                                                                               \
         check(pix_scale##S(empty, corner, all, pix_view_of##S(&pixel, 1, 1), PIX_FILTER_AREA, work, 1 << 12) == PIX_OK, \
               "pix_scale" #S, size);                                                                                   \
+        const uint32_t first = 0;                                                                                      \
+        const int32_t whole = 1 << 14;                                                                                 \
+        const pix_weights none = {NULL, NULL, 0, 1}, rows = {&first, &whole, sizes[size][1] ? 1 : 0, 1};               \
+        const pix_image##S nothing = pix_image_of##S(NULL, 0, sizes[size][1] ? 1 : 0);                                 \
+        check(pix_scale_by##S(nothing, pix_view_of##S(&pixel, 1, 1), none, rows, work, 1 << 12) == PIX_OK,             \
+              "pix_scale_by" #S, size);                                                                                \
     }
 PAINT_(, pix_rgba8)
 PAINT_(_rgba16, pix_rgba16)

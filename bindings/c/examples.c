@@ -99,6 +99,16 @@ static void a_thumbnail(void) {
     check(status == PIX_OK && result[44] == 255 && result[48] == 0, "a thumbnail");
 }
 
+static void two_means(void) {
+    const pix_rgba8 row[4] = {{10, 0, 0, 255}, {20, 0, 0, 255}, {0, 0, 30, 255}, {0, 0, 51, 255}};
+    pix_rgba8 made[2];
+    uint32_t firsts[] = {0, 2}, first[] = {0}, work[64];
+    int32_t weights[] = {8192, 8192, 8192, 8192}, whole[] = {16384};
+    pix_weights across = {firsts, weights, 2, 2}, down = {first, whole, 1, 1};
+    pix_status status = pix_scale_by(pix_image_of(made, 2, 1), pix_view_of(row, 4, 1), across, down, work, 64);
+    check(status == PIX_OK && made[0].r == 15 && made[1].b == 41, "two means");
+}
+
 static void a_table(void) {
     enum { COUNT = 1000 };
     static pix_srgb8 colors[COUNT], work[COUNT], entries[16];
@@ -207,6 +217,7 @@ int main(void) {
     a_glyph_of_16_bits();
     a_photo();
     a_thumbnail();
+    two_means();
     a_table();
     a_tile();
     a_gray();

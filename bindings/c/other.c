@@ -199,6 +199,61 @@ uint32_t pix_raw_scale_work(uint32_t width, uint32_t height, uint32_t across, ui
     return PIX_OK;
 }
 
+/* Pictures at another size by tables of the caller's own. */
+static uint32_t source_fault(uint32_t width, uint32_t height) {
+    if (!width || !height)
+        return PIX_NO_SIDE;
+    return width > 65535 || height > 65535 ? PIX_TOO_LARGE : PIX_OK;
+}
+
+#define OTHER_SCALE_BY_(S, PIXEL, KIND)                                                                                \
+    uint32_t pix_raw_scale_by##S(PIXEL *pixels, size_t pixel_count, uint32_t width, uint32_t height, uint32_t stride,  \
+                                 const PIXEL *source, size_t source_count, uint32_t source_width,                      \
+                                 uint32_t source_height, uint32_t source_stride, const uint32_t *firsts,               \
+                                 size_t first_count, uint32_t taps, const int32_t *weights, size_t weight_count,       \
+                                 const uint32_t *row_firsts, size_t row_first_count, uint32_t row_taps,                \
+                                 const int32_t *row_weights, size_t row_weight_count, uint32_t *work,                  \
+                                 size_t work_count) {                                                                  \
+        const plain_kind kind = KIND;                                                                                  \
+        const plain_rows to = {(unsigned char *)pixels, width, height, stride};                                        \
+        const plain_rows from = {(unsigned char *)(uintptr_t)source, source_width, source_height, source_stride};      \
+        const plain_weights across = {firsts, weights, width, taps}, down = {row_firsts, row_weights, height, row_taps}; \
+        const uint32_t fault = source_fault(source_width, source_height);                                              \
+        (void)work;                                                                                                    \
+        if (fault)                                                                                                     \
+            return fault;                                                                                              \
+        if (!is_sized(width, height, stride, pixel_count))                                                             \
+            return PIX_BAD_SIZE;                                                                                       \
+        if (!is_sized(source_width, source_height, source_stride, source_count))                                       \
+            return PIX_BAD_SOURCE;                                                                                     \
+        if (first_count != width || weight_count != (uint64_t)width * taps || !plain_is_whole(across, source_width))   \
+            return PIX_BAD_WEIGHTS;                                                                                    \
+        if (row_first_count != height || row_weight_count != (uint64_t)height * row_taps                               \
+            || !plain_is_whole(down, source_height))                                                                   \
+            return PIX_BAD_WEIGHTS;                                                                                    \
+        if (work_count < plain_by_words(&kind, width, height, source_width, taps, row_taps))                           \
+            return PIX_SMALL_WORK;                                                                                     \
+        plain_scale_by(&kind, to, from, across, down);                                                                 \
+        return PIX_OK;                                                                                                 \
+    }
+OTHER_SCALE_BY_(, pix_rgba8, RGBA8_)
+OTHER_SCALE_BY_(_rgba16, pix_rgba16, RGBA16_)
+OTHER_SCALE_BY_(_graya8, pix_graya8, GRAYA8_)
+
+uint32_t pix_raw_scale_by_work(uint32_t width, uint32_t height, uint32_t source_width, uint32_t source_height, uint32_t taps,
+                               uint32_t row_taps, uint32_t channels, uint32_t bits, uint64_t *words) {
+    const plain_kind kind = {bits > 8 ? 65535 : 255, bits / 8, channels};
+    uint32_t fault = source_fault(source_width, source_height);
+    *words = 0;
+    if (!(channels == 4 && (bits == 8 || bits == 16)) && !(channels == 2 && bits == 8))
+        return PIX_BAD_FORMAT;
+    if (!fault && (taps > source_width || row_taps > source_height))
+        fault = PIX_BAD_WEIGHTS;
+    if (!fault)
+        *words = plain_by_words(&kind, width, height, source_width, taps, row_taps);
+    return fault;
+}
+
 /* Tables of colors. */
 uint32_t pix_raw_nearest(const pix_srgb8 *entries, size_t len, const pix_srgb8 *color, uint8_t *index) {
     if (!len || len > 256)

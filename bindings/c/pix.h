@@ -251,7 +251,8 @@ typedef enum {
                              * allow */
     PIX_OUTSIDE = 18,       /* the window is not all in the new picture */
     PIX_SMALL_WORK = 19,    /* the work memory has fewer words than pix_scale_work says */
-    PIX_BAD_FILTER = 20     /* no such filter */
+    PIX_BAD_FILTER = 20,    /* no such filter */
+    PIX_BAD_WEIGHTS = 21    /* a table of weights doesn't fit the image or the source, or a row of it doesn't add up */
     /* made by tools/names: end */
 } pix_status;
 
@@ -582,6 +583,42 @@ static inline size_t pix_scale_work(pix_size to, pix_size size, pix_size from, p
 static inline pix_status pix_scale(pix_image to, pix_point at, pix_size size, pix_view from, pix_filter filter,
                                    uint32_t *work, size_t words);
 
+/* A table of weights for the `count` columns, or rows, of a picture at another size. Column i is
+ * made of `taps` columns of the source, from firsts[i] on, all of which are in the source. Their
+ * weights begin at weights[i * taps], in 2^14ths. They add up to 16384, and the negative ones among
+ * them to more than -8192. */
+typedef struct {
+    const uint32_t *firsts; /* `count` of them, from 0 to the side of the source less `taps` */
+    const int32_t *weights; /* `count` times `taps` of them */
+    uint32_t count;         /* as many as the image has columns, or rows */
+    uint32_t taps;          /* from 1 to the side of the source */
+} pix_weights;
+
+/* Returns how many words of work memory pix_scale_by takes for an image of the size `to`, made of one
+ * of the size `from`, by tables of `taps` weights for a column and `row_taps` for a row. It is 0
+ * if pix_scale_by returns PIX_NO_SIDE or PIX_TOO_LARGE for this source, or if a table has more weights
+ * for a place than the source has places, and else at least 1. */
+static inline size_t pix_scale_by_work(pix_size to, pix_size from, uint32_t taps, uint32_t row_taps);
+
+/* Writes a picture at another size by two tables of the caller's own: for a filter that pix_filter
+ * has not, for a picture that is moved by a part of a pixel, or for one that is mirrored. `across`
+ * is the table of the columns of `to`, and `down` that of its rows. Each channel is the sum of those
+ * of the source by both weights. It is rounded once, to the nearest, ties up. An alpha is cut at 0
+ * and at the greatest channel, and a color at 0 and at the new alpha. `work` has `words` words, at
+ * least as many as pix_scale_by_work says. Here a row of four pixels becomes one of two means:
+ *
+ *     uint32_t firsts[] = {0, 2}, first[] = {0}, work[64];
+ *     int32_t weights[] = {8192, 8192, 8192, 8192}, whole[] = {16384};
+ *     pix_weights across = {firsts, weights, 2, 2}, down = {first, whole, 1, 1};
+ *     pix_status status = pix_scale_by(pix_image_of(made, 2, 1), pix_view_of(row, 4, 1), across, down, work, 64);
+ *
+ * Returns PIX_OK, PIX_NO_SIDE (of the source), PIX_TOO_LARGE (a side of the source is above 65535),
+ * PIX_BAD_SIZE, PIX_BAD_SOURCE, PIX_BAD_WEIGHTS (a table is not as pix_weights says),
+ * PIX_SMALL_WORK, PIX_BAD_LENGTH (more words or weights than memory holds), PIX_NULL or
+ * PIX_OVERLAP. */
+static inline pix_status pix_scale_by(pix_image to, pix_view from, pix_weights across, pix_weights down, uint32_t *work,
+                                      size_t words);
+
 /* ---- Tables of colors, for images of indices ----
  *
  * Colors here are as files of indexed images have them: sRGB, and not multiplied by an alpha. The
@@ -844,9 +881,9 @@ typedef struct {
  * pix_clear_rgba16, pix_copy_color_rgba16, pix_copy_image_rgba16, pix_composite_color_rgba16,
  * pix_composite_image_rgba16, pix_composite_matte_rgba16 and pix_composite_image_matte_rgba16
  * (through a pix_matte16), pix_composite_image_alpha_rgba16 (at a uint16_t), pix_run_rgba16,
- * pix_run_window_rgba16, pix_do_rgba16, pix_repeat_image_rgba16, pix_scale_rgba16 and
- * pix_scale_work_rgba16. The same are there with _graya8
- * (through a pix_matte, at a uint8_t). They are defined below, together with those above. */
+ * pix_run_window_rgba16, pix_do_rgba16, pix_repeat_image_rgba16, pix_scale_rgba16,
+ * pix_scale_work_rgba16, pix_scale_by_rgba16 and pix_scale_by_work_rgba16. The same are there with
+ * _graya8 (through a pix_matte, at a uint8_t). They are defined below, together with those above. */
 
 /* Composites a color with an image of 16 bits a channel through a mask of 8 bits, as a rasterizer of
  * glyphs makes it: 255 is all of the color. Each value counts as 257 times itself in a pix_matte16.
@@ -996,6 +1033,38 @@ uint32_t pix_raw_scale_graya8(pix_graya8 *pixels, size_t pixel_count, uint32_t l
  * have so many channels, of 8 or 16 bits. */
 uint32_t pix_raw_scale_work(uint32_t width, uint32_t height, uint32_t across, uint32_t down, uint32_t source_width,
                             uint32_t source_height, uint32_t channels, uint32_t bits, uint32_t filter, uint64_t *words);
+
+/* Writes a picture that is made of a source by a table of weights for its columns and one for its
+ * rows. Row i of a table counts `taps` places from the i-th of `firsts` on, by so many weights in
+ * 2^14ths. `work` is the memory for it, of at least as many words as pix_raw_scale_by_work says. */
+uint32_t pix_raw_scale_by(pix_rgba8 *pixels, size_t pixel_count, uint32_t width, uint32_t height, uint32_t stride,
+                          const pix_rgba8 *source, size_t source_count, uint32_t source_width, uint32_t source_height,
+                          uint32_t source_stride, const uint32_t *firsts, size_t first_count, uint32_t taps,
+                          const int32_t *weights, size_t weight_count, const uint32_t *row_firsts,
+                          size_t row_first_count, uint32_t row_taps, const int32_t *row_weights,
+                          size_t row_weight_count, uint32_t *work, size_t work_len);
+
+/* The same for pixels of 16 bits a channel. */
+uint32_t pix_raw_scale_by_rgba16(pix_rgba16 *pixels, size_t pixel_count, uint32_t width, uint32_t height,
+                                 uint32_t stride, const pix_rgba16 *source, size_t source_count, uint32_t source_width,
+                                 uint32_t source_height, uint32_t source_stride, const uint32_t *firsts,
+                                 size_t first_count, uint32_t taps, const int32_t *weights, size_t weight_count,
+                                 const uint32_t *row_firsts, size_t row_first_count, uint32_t row_taps,
+                                 const int32_t *row_weights, size_t row_weight_count, uint32_t *work, size_t work_len);
+
+/* The same for pixels of gray and alpha. */
+uint32_t pix_raw_scale_by_graya8(pix_graya8 *pixels, size_t pixel_count, uint32_t width, uint32_t height,
+                                 uint32_t stride, const pix_graya8 *source, size_t source_count, uint32_t source_width,
+                                 uint32_t source_height, uint32_t source_stride, const uint32_t *firsts,
+                                 size_t first_count, uint32_t taps, const int32_t *weights, size_t weight_count,
+                                 const uint32_t *row_firsts, size_t row_first_count, uint32_t row_taps,
+                                 const int32_t *row_weights, size_t row_weight_count, uint32_t *work, size_t work_len);
+
+/* Sets `words` to how many words of work memory a picture of `width` by `height` takes, by tables
+ * of so many weights for a column and for a row. Its pixels have so many channels, of 8 or 16
+ * bits. */
+uint32_t pix_raw_scale_by_work(uint32_t width, uint32_t height, uint32_t source_width, uint32_t source_height,
+                               uint32_t taps, uint32_t row_taps, uint32_t channels, uint32_t bits, uint64_t *words);
 
 /* Writes the index of the entry of a table that is nearest to a color. */
 uint32_t pix_raw_nearest(const pix_srgb8 *entries, size_t len, const pix_srgb8 *color, uint8_t *index);
@@ -1233,6 +1302,7 @@ static inline const char *pix_status_text(pix_status status) {
     case PIX_OUTSIDE: return "the window is not all in the new picture";
     case PIX_SMALL_WORK: return "the work memory is too small";
     case PIX_BAD_FILTER: return "no such filter";
+    case PIX_BAD_WEIGHTS: return "a table of weights doesn't fit the image or the source, or a row of it doesn't add up";
     /* made by tools/names: end */
     }
     return "no such status";
@@ -1578,6 +1648,38 @@ PIX_PARTS_(_graya8, pix_graya8, PIX_FORMAT_GRAYA8P)
             || words > (size_t)PTRDIFF_MAX / sizeof(uint32_t))                                                         \
             return 0;                                                                                                  \
         return words ? (size_t)words : 1;                                                                              \
+    }                                                                                                                  \
+    /* Decides: the same. */                                                                                           \
+    static inline size_t pix_scale_by_work##S(pix_size to, pix_size from, uint32_t taps, uint32_t row_taps) {          \
+        uint64_t words = 0;                                                                                            \
+        if (pix_raw_scale_by_work(to.width, to.height, from.width, from.height, taps, row_taps, CHANNELS, BITS,        \
+                                  &words)                                                                              \
+            || words > (size_t)PTRDIFF_MAX / sizeof(uint32_t))                                                         \
+            return 0;                                                                                                  \
+        return words ? (size_t)words : 1;                                                                              \
+    }                                                                                                                  \
+    /* Decides: how many weights the tables have, and whether what is written is apart from the rest. */               \
+    static inline pix_status pix_scale_by##S(pix_image##S to, pix_view##S from, pix_weights across, pix_weights down,  \
+                                             uint32_t *work, size_t words) {                                           \
+        const uint32_t stride = to.stride ? to.stride : to.width, apart = from.stride ? from.stride : from.width;      \
+        const size_t extent = pix_extent_(to.width, to.height, stride, sizeof(PIXEL));                                 \
+        const size_t count = pix_extent_(from.width, from.height, apart, sizeof(PIXEL));                               \
+        const size_t weights = (size_t)across.count * across.taps, row_weights = (size_t)down.count * down.taps;       \
+        const pix_memory_ memory[] = {                                                                                 \
+            {to.pixels, extent, sizeof(PIXEL)},                 {work, words, sizeof *work},                           \
+            {from.pixels, count, sizeof(PIXEL)},                {across.firsts, across.count, sizeof *across.firsts},  \
+            {across.weights, weights, sizeof *across.weights},  {down.firsts, down.count, sizeof *down.firsts},        \
+            {down.weights, row_weights, sizeof *down.weights}};                                                        \
+        const pix_status status = pix_test_(memory, 2, 7);                                                             \
+        if (status != PIX_OK)                                                                                          \
+            return status;                                                                                             \
+        return (pix_status)pix_raw_scale_by##S(                                                                        \
+            PIX_SLICE_(PIXEL, to.pixels, extent), to.width, to.height, stride,                                         \
+            PIX_SLICE_(const PIXEL, from.pixels, count), from.width, from.height,                                      \
+            apart, PIX_SLICE_(const uint32_t, across.firsts, across.count), across.taps,                               \
+            PIX_SLICE_(const int32_t, across.weights, weights),                                                        \
+            PIX_SLICE_(const uint32_t, down.firsts, down.count), down.taps,                                            \
+            PIX_SLICE_(const int32_t, down.weights, row_weights), PIX_SLICE_(uint32_t, work, words));                  \
     }                                                                                                                  \
     /* Decides: whether the image, the source and the work memory are apart from each other. */                        \
     static inline pix_status pix_scale##S(pix_image##S to, pix_point at, pix_size size, pix_view##S from,              \

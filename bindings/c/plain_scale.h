@@ -250,4 +250,55 @@ static inline void plain_scale(const plain_scaling *it, int32_t *work) {
     }
 }
 
+/* A table of the caller's own: for each place of a new side the first of the places that count, and so many weights. */
+typedef struct {
+    const uint32_t *firsts;
+    const int32_t *weights;
+    uint64_t count;
+    uint32_t taps;
+} plain_weights;
+
+/* Whether each row of a table lies in so many places, adds up, and has few weights below 0. */
+static inline int plain_is_whole(plain_weights it, uint64_t places) {
+    int is_whole = it.taps <= places;
+    for (uint64_t i = 0; is_whole && i < it.count; i++) {
+        int64_t sum = 0, below = 0;
+        for (uint64_t k = i * it.taps; k < (i + 1) * it.taps; k++) {
+            sum += it.weights[k];
+            below += it.weights[k] < 0 ? it.weights[k] : 0;
+        }
+        is_whole = (uint64_t)it.firsts[i] + it.taps <= places && sum == PLAIN_SIGNED && below > -PLAIN_SIGNED / 2;
+    }
+    return is_whole;
+}
+
+/* How many words the library takes for it: what weights add and take away, and two rows of the source. */
+static inline uint64_t plain_by_words(const plain_kind *kind, uint64_t width, uint64_t height, uint64_t places, uint32_t taps,
+                                      uint32_t row_taps) {
+    return 2 * (width * taps + height * row_taps + places * kind->channels);
+}
+
+/* Writes a picture by two tables, as plain_scale does by weights that may be negative. */
+static inline void plain_scale_by(const plain_kind *kind, plain_rows to, plain_rows from, plain_weights across,
+                                  plain_weights down) {
+    const size_t size = kind->bytes * kind->channels;
+    for (uint64_t i = 0; i < across.count * down.count; i++) {
+        const uint64_t x = i % across.count, y = i / across.count;
+        uint64_t limit = kind->max;
+        for (size_t c = kind->channels; c-- > 0;) {
+            int64_t sum = 0;
+            for (uint32_t v = 0; v < down.taps; v++)
+                for (uint32_t u = 0; u < across.taps; u++) {
+                    const uint64_t at = (uint64_t)(down.firsts[y] + v) * from.stride + across.firsts[x] + u;
+                    sum += (int64_t)down.weights[y * down.taps + v] * across.weights[x * across.taps + u]
+                           * (int64_t)plain_channel(kind, from.bytes + at * size, c);
+                }
+            const uint64_t channel = scaled_channel(sum, (uint64_t)PLAIN_SIGNED * PLAIN_SIGNED, limit);
+            plain_set_channel(kind, to.bytes + (y * to.stride + x) * size, c, channel);
+            if (c + 1 == kind->channels)
+                limit = channel;
+        }
+    }
+}
+
 #endif

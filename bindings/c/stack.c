@@ -196,6 +196,34 @@ SCALE_()
 SCALE_(_rgba16)
 SCALE_(_graya8)
 
+/* By tables of all places, of some and of one. */
+#define SCALE_BY_(S)                                                                                                   \
+    static pix_status scale_by##S(void) {                                                                              \
+        static uint32_t room[1 << 16], firsts[31];                                                                     \
+        static int32_t weights[31 * SIDE];                                                                             \
+        const uint32_t taps[] = {1, 6, SIDE};                                                                          \
+        pix_status status = PIX_OK;                                                                                    \
+        for (int i = 0; i < 3 && status == PIX_OK; i++) {                                                              \
+            const pix_weights across = {firsts, weights, 17, taps[i]}, down = {firsts, weights, 31, taps[i]};          \
+            for (uint32_t k = 0; k < 31; k++) {                                                                        \
+                firsts[k] = taps[i] == SIDE ? 0 : 2 * k;                                                               \
+                weights[k * taps[i]] = 1 << 14;                                                                        \
+            }                                                                                                          \
+            status = pix_scale_by##S(pix_image_of##S(pixels##S, 17, 31), pix_view_of##S(source##S, SIDE, SIDE),        \
+                                     across, down, room, sizeof room / sizeof *room);                                  \
+            memset(weights, 0, sizeof weights);                                                                        \
+        }                                                                                                              \
+        return status;                                                                                                 \
+    }
+SCALE_BY_()
+SCALE_BY_(_rgba16)
+SCALE_BY_(_graya8)
+
+static pix_status scale_by_work(void) {
+    const pix_size made = {17, 31}, from = {SIDE, SIDE};
+    return pix_scale_by_work(made, from, 6, SIDE) ? PIX_OK : PIX_TOO_LARGE;
+}
+
 static pix_status scale_work(void) {
     const pix_size window = {17, 31}, all = {300, 96}, from = {SIDE, SIDE};
     pix_status status = PIX_OK;
@@ -328,6 +356,10 @@ static const struct { const char *name; size_t kibibytes; pix_status (*call)(voi
     {"pix_scale_rgba16", FEW, scale_rgba16},
     {"pix_scale_graya8", FEW, scale_graya8},
     {"pix_scale_work", FEW, scale_work},
+    {"pix_scale_by", FEW, scale_by},
+    {"pix_scale_by_rgba16", FEW, scale_by_rgba16},
+    {"pix_scale_by_graya8", FEW, scale_by_graya8},
+    {"pix_scale_by_work", FEW, scale_by_work},
     {"pix_nearest", FEW, find},
     {"pix_quantize_refined, without rounds", MATCHING, make},
     {"pix_quantize_refined_alpha, without rounds", MATCHING, make_alpha},

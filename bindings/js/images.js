@@ -62,6 +62,11 @@ export class Image extends Rows {
         return this.pix.scaled(this, width, height, filter, window);
     }
 
+    // The picture at another size by two tables of weights, { firsts, taps, weights } each, as a new image.
+    scaledBy(across, down) {
+        return this.pix.scaledBy(this, across, down);
+    }
+
     // The pixel at (x, y): its channels.
     pixel(x, y) {
         whole(x, 'x', this.width - 1);

@@ -93,6 +93,15 @@ export function compositeImageAlpha(to: Region, image: Image,
 /** A pattern: the commands that composite copies of an image side by side over all of `to`. */
 export function repeatImage(to: Region, image: Image, options?: { from?: Region; op?: AnyOp }): Command[];
 
+/** A table of weights for the columns, or the rows, of a picture at another size. Column i is made of `taps` columns of the
+ * source, from firsts[i] on, all of which are in the source. Their weights begin at weights[i * taps], in 2^14ths. They add up to
+ * 16384, and the negative ones among them to more than -8192. */
+export interface Weights {
+    readonly firsts: ArrayLike<number>;
+    readonly taps: number;
+    readonly weights: ArrayLike<number>;
+}
+
 /** Rows of pixels, from top to bottom. */
 export class Image {
     /** How many columns it has. */
@@ -112,6 +121,9 @@ export class Image {
     /** The picture at another size, as a new image in the module's memory, by 'Area' without a filter. With a `window`, a region
      * of that size, only that part is made: the whole need never be in memory, and windows side by side have no seam. */
     scaled(width: number, height: number, options?: { filter?: AnyFilter; window?: Region }): Image;
+    /** The picture at another size by tables of weights for its columns and its rows, as a new image in the module's memory: for a
+     * filter that 'Filter' has not, for a picture that is moved by a part of a pixel, or for one that is mirrored. */
+    scaledBy(across: Weights, down: Weights): Image;
     /** The channels of a pixel. */
     pixel(x: number, y: number): number[];
     /** A view of a part of the same pixels. */

@@ -10,7 +10,7 @@ import { arrayOf, bitmapOf, BYTES, bytesOf, Image, isWide, kindsOf, Matte, meet 
 import { layoutOf, writeList } from './layout.js';
 import { Memory } from './memory.js';
 import * as tables from './tables.js';
-import { bad, Filter, filterOf, Format, formatOf, kindOf, MOST, Op, PixError, regionOf, RGBA16, RGBA8, GRAYA8, shown, STATUS, whole } from './values.js';
+import { bad, Filter, filterOf, Format, formatOf, kindOf, MOST, Op, PixError, regionOf, RGBA16, RGBA8, GRAYA8, shown, STATUS, weightsOf, whole } from './values.js';
 
 export { Filter, Format, GRAYA8, Image, Matte, Op, PixError, RGBA16, RGBA8, VERSION };
 export { channels, colorOf, srgb } from './values.js';
@@ -133,6 +133,42 @@ export class Pix extends Memory {
             this.scratch((put) => [this.calls[`pix_raw_scale${image.type.suffix}`](BigInt(put(made, true)), extent, x, y, width, height, width,
                 across, down, BigInt(put(image)), BigInt(image.extent), image.width, image.height, image.stride, number,
                 BigInt(put(work)), BigInt(words))]);
+        } catch (error) {
+            made.free();
+            throw error;
+        }
+        return made;
+    }
+
+    // How many words of work memory a picture by two tables of weights takes.
+    scaleByWork({ type, width, height }, columns, rows) {
+        let words = 0;
+        const bits = type.max > 255 ? 16 : 8, answer = new BigUint64Array(1);
+        this.scratch((put) => {
+            const at = put(answer, true);
+            const status = this.calls.pix_raw_scale_by_work(columns.count, rows.count, width, height, columns.taps, rows.taps,
+                type.channels, bits, BigInt(at));
+            words = Number(new BigUint64Array(this.memory.buffer, at, 1)[0]);
+            return [status];
+        });
+        return words;
+    }
+
+    // The picture at another size by tables of weights for its columns and for its rows, as a new image.
+    scaledBy(image, across, down) {
+        const columns = weightsOf(across, 'across'), rows = weightsOf(down, 'down');
+        const words = this.scaleByWork(image, columns, rows), { count: width } = columns, { count: height } = rows;
+        if ([columns, rows].some(({ count, taps, many }) => many !== count * taps)) throw new PixError(STATUS.indexOf('BAD_WEIGHTS'));
+        const made = this.newImage(width, height, image.type), extent = BigInt(made.extent);
+        try {
+            const work = new Uint32Array(words + 1);
+            this.scratch((put) => {
+                const passed = [columns, rows].flatMap(({ places, count, taps, numbers, many }) => [BigInt(put(places)), BigInt(count), taps,
+                    BigInt(put(numbers)), BigInt(many)]);
+                return [this.calls[`pix_raw_scale_by${image.type.suffix}`](BigInt(put(made, true)), extent, width, height, width,
+                    BigInt(put(image)), BigInt(image.extent), image.width, image.height, image.stride, ...passed,
+                    BigInt(put(work)), BigInt(words))];
+            });
         } catch (error) {
             made.free();
             throw error;

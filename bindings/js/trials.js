@@ -203,6 +203,30 @@ export const trials = {
         same(dots.scaled(2 ** 30, 1, { filter: 'Nearest', window: [2 ** 29 - 1, 0, 2, 1] }).toArray('SGRAY8'), [0, 255], 'far away');
         same(dots.scaled(1, 1).toArray('SRGB8'), [188, 188, 188], 'half the light');
     },
+    'pictures by tables of weights, beside their sums': (pix) => {
+        const below = numbers(5), taps = 2, rows = { firsts: [0, HIGH - 2], taps, weights: [-8191, 16384 + 8191, 12000, 4384] };
+        for (const type of [RGBA8, RGBA16, GRAYA8]) {
+            const image = pix.view(pixelsOf(below, type), WIDE, HIGH, { type }), count = 7;
+            const columns = { firsts: Uint32Array.from({ length: count }, () => below(WIDE - 1)), taps, weights: new Int32Array(count * taps) };
+            for (let i = 0; i < count; i += 1) columns.weights.set([16384 - 1000 * i, 1000 * i], i * taps);
+            const made = image.scaledBy(columns, rows);
+            same(made.pixels, weighed(columns, rows, image.pixels, type), `${type} by tables`);
+            made.free();
+            const backwards = { firsts: Array.from({ length: WIDE }, (_, i) => WIDE - 1 - i), taps: 1, weights: Array(WIDE).fill(16384) };
+            const mirrored = image.scaledBy(backwards, { firsts: [1], taps: 1, weights: [16384] });
+            same(mirrored.pixel(0, 0), image.pixel(WIDE - 1, 1), 'a mirrored row');
+        }
+        const image = pix.newImage(4, 4), one = { firsts: [0], taps: 1, weights: [16384] };
+        same(image.scaledBy({ firsts: [], taps: 1, weights: [] }, one).pixels, [], 'no column');
+        for (const table of [{ ...one, firsts: [4] }, { ...one, taps: 0 }, { ...one, taps: 5 }, { ...one, weights: [16383] },
+            { firsts: [0], taps: 2, weights: [16384 + 8192, -8192] }, { firsts: [3], taps: 2, weights: [8192, 8192] }]) {
+            refused(() => image.scaledBy(table, one), PixError, 'BAD_WEIGHTS');
+            refused(() => image.scaledBy(one, table), PixError, 'BAD_WEIGHTS');
+        }
+        refused(() => pix.newImage(65536, 1).scaledBy(one, one), PixError, 'TOO_LARGE');
+        refused(() => image.scaledBy([0, 16384], one), TypeError, '{ firsts, taps, weights }');
+        refused(() => image.scaledBy({ ...one, weights: [0.5] }, one), RangeError, 'Math.round');
+    },
     'what is refused says what to write': (pix) => {
         const image = pix.newImage(4, 4), small = pix.newImage(4, 4, 'RGBA8'), all = [0, 0, 4, 4];
         refused(() => image.run(copyColor(all, [200, 120, 40, 255])), TypeError, 'srgb(200,120,40,255)');
@@ -306,6 +330,22 @@ function scaledBy(weights, pixels, many, width, height) {
         }));
         return Math.floor((2 * sum + whole) / (2 * whole));
     });
+}
+
+// A picture of WIDE by HIGH pixels by two tables: each channel is its double sum, rounded once, and cut at 0 and at the new alpha.
+function weighed(columns, rows, pixels, { channels: many, max }) {
+    return Array.from(rows.firsts, (top, y) => Array.from(columns.firsts, (left, x) => {
+        const pixel = [];
+        for (let c = many - 1; c >= 0; c -= 1) {
+            let sum = 0;
+            for (let v = 0; v < rows.taps; v += 1) for (let u = 0; u < columns.taps; u += 1) {
+                const weight = rows.weights[y * rows.taps + v] * columns.weights[x * columns.taps + u];
+                sum += weight * pixels[((top + v) * WIDE + left + u) * many + c];
+            }
+            pixel[c] = Math.min(Math.max(Math.floor((sum + 2 ** 27) / 2 ** 28), 0), c === many - 1 ? max : pixel[many - 1]);
+        }
+        return pixel;
+    })).flat(2);
 }
 
 // Error diffusion by Floyd and Steinberg, as documented in pix.h.

@@ -22,7 +22,7 @@ export const TYPES = [RGBA8, RGBA16, GRAYA8];
 export const STATUS = [
     'OK', 'BAD_SIZE', 'BAD_KIND', 'BAD_REGION', 'BAD_OP', 'BAD_SOURCE', 'BAD_FORMAT', 'BAD_LENGTH', 'NULL', 'OVERLAP',
     'BAD_LIBRARY', 'BAD_TABLE', 'BAD_INDEX', 'BAD_DEPTH', 'FULL_TABLE', 'BAD_STRENGTH', 'NO_SIDE', 'TOO_LARGE', 'OUTSIDE',
-    'SMALL_WORK', 'BAD_FILTER',
+    'SMALL_WORK', 'BAD_FILTER', 'BAD_WEIGHTS',
 ];
 // made by tools/names: end
 
@@ -51,6 +51,17 @@ export const regionOf = (region, what) => {
     if (!Array.isArray(region) || region.length !== 4) bad(`${what} ${shown(region)} is no region: write [x, y, width, height]`);
     return region.map((number, i) => whole(number, `${what}'s ${'x,y,width,height'.split(',')[i]}`,
         i < 2 ? MOST : undefined, i < 2 ? -MOST - 1 : 0));
+};
+
+// The numbers of a table of weights, in arrays of their own. Each has one more than the table, so that none is empty.
+export const weightsOf = (table, what) => {
+    if (typeof table?.firsts?.length !== 'number' || typeof table.weights?.length !== 'number') {
+        bad(`${what} ${shown(table)} is no table of weights: write { firsts, taps, weights }`);
+    }
+    const { firsts, taps, weights } = table, places = new Uint32Array(firsts.length + 1), numbers = new Int32Array(weights.length + 1);
+    places.set(Array.from(firsts, (first) => whole(first, 'a first place')));
+    numbers.set(Array.from(weights, (weight) => whole(weight, 'a weight', MOST, -MOST - 1)));
+    return { places, count: firsts.length, taps: whole(taps, 'taps'), numbers, many: weights.length };
 };
 
 export const kindOf = (type) => TYPES.find((each) => each === type || each.name === type)

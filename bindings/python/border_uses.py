@@ -121,6 +121,9 @@ def masked_by(buffer):
     )
 
 
+# A table of means.
+PAIRS = pix.Weights([0, 2, 4, 6], 2, [8192] * 8)
+
 # What may be done with a buffer of SIZE bytes: the function of the library, whether it writes them,
 # and the call.
 USES = [
@@ -140,6 +143,14 @@ USES = [
             ("pix_raw_scale", pix.RGBA8),
             ("pix_raw_scale_rgba16", pix.RGBA16),
             ("pix_raw_scale_graya8", pix.GRAYA8),
+        )
+    ],
+    *[
+        (name, False, lambda it, type=type: image_of(it, type).scaled_by(PAIRS, PAIRS))
+        for name, type in (
+            ("pix_raw_scale_by", pix.RGBA8),
+            ("pix_raw_scale_by_rgba16", pix.RGBA16),
+            ("pix_raw_scale_by_graya8", pix.GRAYA8),
         )
     ],
     ("pix_raw_convert", False, lambda it: pix.convert(RGBA8, it, BGRA8)),

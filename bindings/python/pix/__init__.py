@@ -31,7 +31,8 @@ map_indexed() turns a picture into indices into a table of colors, for files suc
 turns them back into colors, and pack_row() packs several into a byte. map_indexed_rgba() takes a table of colors with an
 alpha, which PNG can have.
 
-image.scaled(width, height) is the picture at another size, or a window of that.
+image.scaled(width, height) is the picture at another size, or a window of that. image.scaled_by(across, down) makes one by
+tables of weights of your own.
 
 You can paint a picture tile by tile. Each tile is an Image of its own that runs the same commands at its place, with
 tile.run(*commands, origin=(left, top)); the result is the picture painted whole. Several threads may paint bands of rows
@@ -84,12 +85,12 @@ from pix._makers import (
 )  # fmt: skip
 from pix._pixels import GRAYA8, RGBA8, RGBA16, PixelType
 from pix._profile import ColorWarning
-from pix._values import Filter, Format, Op, PixError, Region, Status
+from pix._values import Filter, Format, Op, PixError, Region, Status, Weights
 from pix._views import Matte
 
 __version__ = "0.3.0"
 __all__ = [
-    "Op", "Filter", "Format", "Status", "PixError", "ColorWarning", "PixelType", "RGBA8", "RGBA16", "GRAYA8", "Region", "Image", "Matte",
+    "Op", "Filter", "Weights", "Format", "Status", "PixError", "ColorWarning", "PixelType", "RGBA8", "RGBA16", "GRAYA8", "Region", "Image", "Matte",
     "Command", "CommandList", "Color", "Srgb", "srgb", "clear", "copy_color", "copy_image", "composite_color", "composite_image", "composite_matte",
     "composite_image_matte", "composite_image_alpha", "repeat_image", "convert", "convert_bitmap", "color_of",
     "quantize", "map_indexed", "diffuse_indexed", "index_pixels", "look_up", "count_indices", "row_size", "pack_row",
@@ -103,7 +104,7 @@ SRGB8, SBGR8, SGRAY8, SGRAYA8 = Format.SRGB8, Format.SBGR8, Format.SGRAY8, Forma
 SRGBX8, SBGRX8 = Format.SRGBX8, Format.SBGRX8
 
 # Users and pickles name these by this package, wherever they are defined.
-for _public in (Op, Region, Filter, Format, Status, PixError, ColorWarning, PixelType, Image, Matte, Command, CommandList, convert, convert_bitmap):
+for _public in (Op, Region, Filter, Weights, Format, Status, PixError, ColorWarning, PixelType, Image, Matte, Command, CommandList, convert, convert_bitmap):
     _public.__module__ = __name__
 for _public in (Color, Srgb, srgb, color_of):
     _public.__module__ = __name__

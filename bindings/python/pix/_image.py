@@ -17,9 +17,9 @@ from pix._numbers import index
 from pix._pillow import facts_of, image_of, picture_of
 from pix._pixels import RGBA8, RGBA16, PixelType, kind_of
 from pix._png import LIMIT
-from pix._scale import scaled_rows
+from pix._scale import scaled_by_rows, scaled_rows
 from pix._turns import turns
-from pix._values import Filter, Format, PixError, Status, origin_of, region_of, u32
+from pix._values import Filter, Format, PixError, Status, Weights, origin_of, region_of, u32
 from pix._views import View, rows_of
 
 
@@ -294,6 +294,26 @@ class Image(View):
         <pix.Image 20 x 9, RGBA16>
         """
         return scaled_rows(self._rows, width, height, filter, window, lambda wide, high: Image.new(wide, high, self.type))
+
+    def scaled_by(self, across: Weights, down: Weights) -> Image:
+        """The picture at another size by two tables of weights, as a new image of the same type.
+
+        It has a column for each of `across`, and a row for each of `down`. This is for a filter that
+        Filter has not, for a picture that is moved by a part of a pixel, or for one that is mirrored.
+        Each channel is the sum of those of this image by both weights. It is rounded once, to the
+        nearest, ties up. An alpha is cut at 0 and at the greatest channel, and a color at 0 and at the
+        new alpha. A long call releases the interpreter's lock.
+
+        Raises PixError, with the status NO_SIDE for a side of this image that is 0, TOO_LARGE for one
+        above 65535, and BAD_WEIGHTS for a table that is not as Weights says.
+
+        >>> image = pix.Image.new(4, 1)
+        >>> image.run(pix.copy_color((1, 0, 1, 1), pix.srgb("#fff")))
+        >>> means = pix.Weights([0, 2], 2, [8192, 8192, 8192, 8192])
+        >>> image.scaled_by(means, pix.Weights([0], 1, [16384]))[0, 0]
+        pix.Color((32768, 32768, 32768, 32768), pix.RGBA16)
+        """
+        return scaled_by_rows(self._rows, across, down, lambda wide, high: Image.new(wide, high, self.type))
 
     def __getitem__(self, place: Tuple[SupportsIndex, SupportsIndex]) -> Color:
         """The pixel at (x, y): its channels, premultiplied and linear, and as `srgb` its color.

@@ -3,16 +3,19 @@
 from __future__ import annotations
 
 import ctypes
-from typing import Any, Callable, Iterable, Optional, SupportsIndex
+from typing import Any, Callable, Iterable, Optional, SupportsIndex, Tuple
 
 from pix._calls import Call
 from pix._library import libraries
 from pix._memory import is_held
-from pix._values import Filter, PixError, Region, Status, region_of, u32
+from pix._values import Filter, PixError, Region, Status, Weights, i32, region_of, u32
 from pix._views import Rows
 
 _CALLS = {
     "RGBA8": Call("pix_raw_scale"), "RGBA16": Call("pix_raw_scale_rgba16"), "GRAYA8": Call("pix_raw_scale_graya8"),
+}  # fmt: skip
+_BY_CALLS = {
+    "RGBA8": Call("pix_raw_scale_by"), "RGBA16": Call("pix_raw_scale_by_rgba16"), "GRAYA8": Call("pix_raw_scale_by_graya8"),
 }  # fmt: skip
 
 
@@ -56,4 +59,41 @@ def scaled_rows(
             steps, made._rows.memory, part.x, part.y, part.width, part.height, part.width, across, down, rows.memory,
             rows.width, rows.height, rows.stride, kind, (ctypes.c_uint32 * words)(), words,
         )  # fmt: skip
+    return made
+
+
+def _own(table: Weights) -> Tuple[Any, int, int, Any, int]:
+    """The numbers of a table in memory that nobody else knows, as the library takes them."""
+    firsts, taps, weights = table
+    places = [u32(first, "first") for first in firsts]
+    numbers = [i32(weight, "weight") for weight in weights]
+    # One more than there are, so that there is an address for none too.
+    return (
+        (ctypes.c_uint32 * (len(places) + 1))(*places), len(places), u32(taps, "taps"),
+        (ctypes.c_int32 * (len(numbers) + 1))(*numbers), len(numbers),
+    )  # fmt: skip
+
+
+def scaled_by_rows(rows: Rows, across: Weights, down: Weights, new: Callable[[int, int], Any]) -> Any:
+    """The picture at another size by two tables, in an image that `new` makes."""
+    columns, lines = _own(across), _own(down)
+    words, type = ctypes.c_uint64(), rows.type
+    assert type is not None
+    wide, high, taps, high_taps = columns[1], lines[1], columns[2], lines[2]
+    status = libraries[0].pix_raw_scale_by_work(
+        wide, high, rows.width, rows.height, taps, high_taps, type.channels, type.max.bit_length(), ctypes.byref(words)
+    )
+    if status:
+        raise PixError(Status(status))
+    if not is_held(rows.elements, rows.width, rows.height, rows.stride):
+        raise PixError(Status.BAD_SOURCE)
+    if columns[4] != wide * taps or lines[4] != high * high_taps:
+        raise PixError(Status.BAD_WEIGHTS)
+    made = new(wide, high)
+    # For each row some rows of the source, and then its pixels.
+    steps = high * (rows.width * high_taps + wide * taps)
+    _BY_CALLS[type.name](
+        steps, made._rows.memory, wide, high, wide, rows.memory, rows.width, rows.height, rows.stride, *columns, *lines,
+        (ctypes.c_uint32 * max(words.value, 1))(), words.value,
+    )  # fmt: skip
     return made

@@ -3,7 +3,7 @@
 from __future__ import annotations
 
 from enum import IntEnum
-from typing import Iterable, NamedTuple, Optional, SupportsIndex, Tuple
+from typing import Iterable, NamedTuple, Optional, Sequence, SupportsIndex, Tuple
 
 from pix._numbers import index
 
@@ -22,6 +22,19 @@ class Region(NamedTuple):
 
     def __repr__(self) -> str:
         return tuple.__repr__(self)
+
+
+class Weights(NamedTuple):
+    """A table of weights for the columns, or the rows, of a picture at another size.
+
+    Column i is made of `taps` columns of the source, from firsts[i] on, all of which are in the source. Their weights
+    begin at weights[i * taps], in 2^14ths. They add up to 16384, and the negative ones among them to more than -8192.
+    You can also pass a tuple (firsts, taps, weights).
+    """
+
+    firsts: Sequence[SupportsIndex]
+    taps: int
+    weights: Sequence[SupportsIndex]
 
 
 class Op(IntEnum):
@@ -238,6 +251,7 @@ class Status(IntEnum):
     OUTSIDE = 18  # the window is not all in the new picture
     SMALL_WORK = 19  # the work memory has fewer words than scale_work says
     BAD_FILTER = 20  # no such filter
+    BAD_WEIGHTS = 21  # a table of weights doesn't fit the image or the source, or a row of it doesn't add up
     # made by tools/names: end
 
 
@@ -260,6 +274,7 @@ _TEXTS = {
     Status.OUTSIDE: "the window is not all in the new picture",
     Status.SMALL_WORK: "the work memory is too small",
     Status.BAD_FILTER: "no such filter",
+    Status.BAD_WEIGHTS: "a table of weights doesn't fit the image or the source, or a row of it doesn't add up",
     # made by tools/names: end
 }
 
@@ -287,6 +302,14 @@ def u32(number: SupportsIndex, what: str) -> int:
     taken = index(number)
     if not 0 <= taken < 2**32:
         raise ValueError(f"{what} {taken} is not from 0 to {2**32 - 1}")
+    return taken
+
+
+def i32(number: SupportsIndex, what: str) -> int:
+    """The number, if it fits in 32 bits with a sign."""
+    taken = index(number)
+    if not -(2**31) <= taken < 2**31:
+        raise ValueError(f"{what} {taken} is not from {-(2**31)} to {2**31 - 1}")
     return taken
 
 

@@ -71,3 +71,6 @@ pub use Rattle.pix_palette.specs.ColorTable
 pub use Rattle.pix_palette.specs.RgbaTable
 pub use Rattle.pix_scale.specs.Axis
 pub use Rattle.pix_scale.specs.Call as ScaleCall
+pub use Rattle.pix_scale.specs.Signed as SignedScale
+pub use Rattle.pix_scale.specs.Weighted
+pub use Rattle.pix_scale.specs.WeightedCall

@@ -21,4 +21,4 @@ pub use pix_el::{chan, el, light, matte, ops, rgb};
 pub use pix_palette::{ColorTable, Palette, RgbaTable, ScanOrder};
 pub use pix_raster::{Command, Raster, RasterFault, Region, Rows, RowsMut, view};
 pub use pix_scale::fault::ScaleFault;
-pub use pix_scale::{filter, scale, scaled, shape};
+pub use pix_scale::{filter, scale, scaled, shape, weighted};

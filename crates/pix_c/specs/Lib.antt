@@ -1,2 +1,3 @@
 pub mod Scale
+pub mod ScaleBy
 pub mod Table

@@ -13,7 +13,7 @@ use Rattle.pix_scale.specs.declared.filter.SignedFilter.TheVariants.{CatmullRom,
 use Rattle.pix_scale.specs.declared.shape.Rows.{Rows}
 use Rattle.pix_scale.specs.declared.shape.View.{View}
 use Rattle.pix_scale.specs.declared.fault.ScaleFault.{ScaleFault}
-use Rattle.pix_scale.specs.declared.fault.ScaleFault.TheVariants.{NoSide, TooLarge, Outside, BadRows, BadSource, SmallWork}
+use Rattle.pix_scale.specs.declared.fault.ScaleFault.TheVariants.{NoSide, TooLarge, Outside, BadRows, BadSource, BadWeights, SmallWork}
 
 -- the filter of a number, if there is one
 abbrev pub filter_of : ℕ → Option Filter
@@ -30,6 +30,7 @@ fault_status (Some TooLarge) = 17
 fault_status (Some Outside) = 18
 fault_status (Some BadRows) = 1
 fault_status (Some BadSource) = 5
+fault_status (Some BadWeights) = 21
 fault_status (Some SmallWork) = 19
 
 -- the rows of a number of columns and rows, a stride apart

@@ -11,6 +11,7 @@ mod layout;
 mod refine;
 mod rgba;
 mod scale;
+mod scale_by;
 mod status;
 mod table;
 mod window;
@@ -26,8 +27,11 @@ pub use crate::rgba::{
     pix_raw_quantize_rgba,
 };
 pub use crate::scale::{
-    BAD_FILTER, NO_SIDE, OUTSIDE, SMALL_WORK, TOO_LARGE, pix_raw_scale, pix_raw_scale_graya8,
-    pix_raw_scale_rgba16, pix_raw_scale_work,
+    BAD_FILTER, BAD_WEIGHTS, NO_SIDE, OUTSIDE, SMALL_WORK, TOO_LARGE, pix_raw_scale,
+    pix_raw_scale_graya8, pix_raw_scale_rgba16, pix_raw_scale_work,
+};
+pub use crate::scale_by::{
+    pix_raw_scale_by, pix_raw_scale_by_graya8, pix_raw_scale_by_rgba16, pix_raw_scale_by_work,
 };
 pub use crate::status::{
     BAD_FORMAT, BAD_KIND, BAD_LENGTH, BAD_OP, BAD_REGION, BAD_SIZE, BAD_SOURCE, DONE,

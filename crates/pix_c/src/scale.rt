@@ -33,6 +33,10 @@ pub const SMALL_WORK: u32 = 19;
 /// There is no such filter.
 pub const BAD_FILTER: u32 = 20;
 
+/// A table of weights does not fit the picture, or a row of it does not lie in the source or does
+/// not add up.
+pub const BAD_WEIGHTS: u32 = 21;
+
 /// Returns the filter of a number, if there is one.
 fn filter_of(number: u32) -> Option<Filter>
     ensures { result ≡ filter_of number }
@@ -58,7 +62,7 @@ fn signed_of(number: u32) -> Option<SignedFilter>
 }
 
 /// Returns the status of a fault.
-fn fault_status(fault: ScaleFault) -> u32
+pub(crate) fn fault_status(fault: ScaleFault) -> u32
     ensures { result ≡ fault_status (Option.Some fault) }
 {
     match fault {
@@ -67,6 +71,7 @@ fn fault_status(fault: ScaleFault) -> u32
         ScaleFault::Outside => OUTSIDE,
         ScaleFault::BadRows => BAD_SIZE,
         ScaleFault::BadSource => BAD_SOURCE,
+        ScaleFault::BadWeights => BAD_WEIGHTS,
         ScaleFault::SmallWork => SMALL_WORK,
     }
 }

@@ -22,6 +22,8 @@ mod Singles
 mod Sums
 mod Tables
 mod Terms
+mod WeightedCalls
+mod WeightedTables
 mod Windows
 mod Written
 mod WholeRows

@@ -4,3 +4,5 @@ pub mod Call
 pub mod Signed
 pub mod SignedTable
 pub mod SignedCall
+pub mod Weighted
+pub mod WeightedCall

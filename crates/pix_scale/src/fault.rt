@@ -21,6 +21,10 @@ pub enum ScaleFault {
     /// The rows of the source do not fit its pixels.
     #[error("Source rows do not fit the pixels")]
     BadSource,
+    /// A table of weights does not fit the rows, or a row of it does not lie in the source or does
+    /// not add up.
+    #[error("Table does not fit or does not add up")]
+    BadWeights,
     /// There is too little work memory.
     #[error("Work memory too small")]
     SmallWork,

@@ -27,4 +27,7 @@ mod signed_table;
 mod signed_values;
 mod signed_weights;
 mod table;
+pub mod weighted;
+mod weighted_draw;
+mod weighted_table;
 mod weights;

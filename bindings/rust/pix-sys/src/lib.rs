@@ -159,6 +159,8 @@ pub mod status {
     pub const SMALL_WORK: u32 = 19;
     /// No such filter.
     pub const BAD_FILTER: u32 = 20;
+    /// A table of weights doesn't fit the image or the source, or a row of it doesn't add up.
+    pub const BAD_WEIGHTS: u32 = 21;
     // made by tools/names: end
 }
 

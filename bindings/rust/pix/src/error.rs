@@ -47,8 +47,10 @@ pub enum Error {
     TooLarge,
     /// The window isn't all in the picture at another size.
     Outside,
-    /// There is less work memory than [`scale_work`](crate::scale_work) says.
+    /// There is less work memory than [`scale_work`](crate::scale_work) or [`scale_by_work`](crate::scale_by_work) says.
     Work,
+    /// A table of [`Weights`](crate::Weights) doesn't fit the picture or the source, or a row of it doesn't add up.
+    Weights,
     /// The processor is neither x86-64 with SSE4.1 nor aarch64.
     Processor,
     /// The archive has another version or layout than the crate `pix-sys`.
@@ -79,6 +81,7 @@ impl Error {
             status::TOO_LARGE => Error::TooLarge,
             status::OUTSIDE => Error::Outside,
             status::SMALL_WORK => Error::Work,
+            status::BAD_WEIGHTS => Error::Weights,
             _ => Error::Unknown { status, index },
         }
     }
@@ -127,6 +130,9 @@ impl fmt::Display for Error {
             ),
             Error::Outside => f.write_str("the window is not all in the new picture"),
             Error::Work => f.write_str("the work memory is too small"),
+            Error::Weights => f.write_str(
+                "a table of weights doesn't fit the image or the source, or a row of it doesn't add up",
+            ),
             Error::Processor => LibraryFault::Processor.fmt(f),
             Error::Library => LibraryFault::Archive.fmt(f),
             Error::Unknown { status, index } => write!(f, "command {index}: status {status}"),

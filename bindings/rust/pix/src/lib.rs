@@ -56,6 +56,7 @@ mod pixel;
 mod rgba_table;
 mod rows;
 mod scale;
+mod scale_by;
 mod table;
 
 pub use crate::bitmap::{Bitmap, BitmapMut};
@@ -68,6 +69,7 @@ pub use crate::pixel::{Graya8, Pixel, Region, Rgba8, Rgba16, bytes, bytes_mut};
 pub use crate::rgba_table::{RgbaTable, quantize_rgba};
 pub use crate::rows::{IndexDepth, count_indices, pack_row, unpack_row};
 pub use crate::scale::{Filter, scale, scale_work};
+pub use crate::scale_by::{Weights, scale_by, scale_by_work};
 pub use crate::table::{
     ColorTable, DEFAULT_ROUNDS, Srgb8, Srgba8, diffuse_indexed_work, index_pixels, quantize,
     quantize_alpha, quantize_refined, quantize_refined_alpha,

@@ -5,7 +5,7 @@ use crate::error::Error;
 use crate::format::Format;
 use core::ptr::NonNull;
 use core::slice;
-use pix_sys::{RunWindow, Scale};
+use pix_sys::{RunWindow, Scale, ScaleBy};
 
 pub use pix_sys::{Graya8, Region, Rgba8, Rgba16};
 
@@ -40,7 +40,7 @@ pub trait Pixel: Copy + Default + private::Calls<Self::Matte> {
 
 pub(crate) mod private {
     use core::fmt::Debug;
-    use pix_sys::{Command, RunWindow, Scale};
+    use pix_sys::{Command, RunWindow, Scale, ScaleBy};
 
     /// The library's calls for a kind of pixels.
     pub trait Calls<M>: Sized {
@@ -50,6 +50,8 @@ pub(crate) mod private {
         const RUN: RunWindow<Self, Self::Raw>;
 
         const SCALE: Scale<Self>;
+
+        const SCALE_BY: ScaleBy<Self>;
 
         /// A command with only the fields that all kinds of pixels have.
         fn raw(command: Command<Self, M>) -> Self::Raw;
@@ -72,6 +74,8 @@ impl private::Calls<u8> for Rgba8 {
 
     const SCALE: Scale<Rgba8> = pix_sys::pix_raw_scale;
 
+    const SCALE_BY: ScaleBy<Rgba8> = pix_sys::pix_raw_scale_by;
+
     fn raw(command: pix_sys::Command<Rgba8, u8>) -> Self::Raw {
         command
     }
@@ -93,6 +97,8 @@ impl private::Calls<u16> for Rgba16 {
     const RUN: RunWindow<Rgba16, Self::Raw> = pix_sys::pix_raw_run_window_rgba16;
 
     const SCALE: Scale<Rgba16> = pix_sys::pix_raw_scale_rgba16;
+
+    const SCALE_BY: ScaleBy<Rgba16> = pix_sys::pix_raw_scale_by_rgba16;
 
     fn raw(command: pix_sys::Command<Rgba16, u16>) -> Self::Raw {
         pix_sys::CommandRgba16 {
@@ -119,6 +125,8 @@ impl private::Calls<u8> for Graya8 {
     const RUN: RunWindow<Graya8, Self::Raw> = pix_sys::pix_raw_run_window_graya8;
 
     const SCALE: Scale<Graya8> = pix_sys::pix_raw_scale_graya8;
+
+    const SCALE_BY: ScaleBy<Graya8> = pix_sys::pix_raw_scale_by_graya8;
 
     fn raw(command: pix_sys::Command<Graya8, u8>) -> Self::Raw {
         command

@@ -46,7 +46,7 @@ impl Filter {
 }
 
 /// Answers a status.
-fn answered(status: u32) -> Result<(), Error> {
+pub(crate) fn answered(status: u32) -> Result<(), Error> {
     match status {
         status::OK => Ok(()),
         status::BAD_SOURCE => Err(Error::Picture),
