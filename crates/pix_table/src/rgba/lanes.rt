@@ -16,6 +16,20 @@ const MANY: usize = 112;
 /// An entry is close to a color where their numbers over black differ by less than this in all.
 const CLOSE: u16 = 64;
 
+/// The number of cells of colors, each of 32 reds, greens, blues and alphas.
+pub(crate) const CELLS: usize = 4096;
+
+/// Returns the number of a color's cell.
+#[inline(always)]
+fn cell_of(clr: SeenColor) -> usize
+    ensures { result < 4096 }
+{
+    usize::from(clr.red) / 32 * 512
+        + usize::from(clr.green) / 32 * 64
+        + usize::from(clr.blue) / 32 * 8
+        + usize::from(clr.alpha) / 32
+}
+
 /// A copy of some colors that are seen, at least one and at most 256, in blocks of lanes.
 #[derive(Clone, Copy)]
 pub(crate) struct SeenLanes {
@@ -90,6 +104,28 @@ impl SeenLanes {
         }
         let blocks = &self.blocks[..(self.len + 15) / SIZE];
         nearest_near(blocks, ends, both_views(clr), near)
+    }
+
+    /// Returns the index of the entry that is seen nearest to a color, the first of equals. It
+    /// begins near the entry that was found last in the color's cell, and keeps the one that it
+    /// finds there. Any numbers may stand there at first.
+    #[inline(always)]
+    pub(crate) fn nearest_by_cell(
+        &self,
+        ends: &BlockEnds,
+        found: &mut [u8; CELLS],
+        clr: SeenColor,
+    ) -> u8
+        requires seen { AreSeen (seen_numbers clr) }
+        requires ends { AreEnds self.now.blocks ends.now }
+        ensures { (entries : List (List ℕ)) → AreSeenLanes entries self.now
+            → IsNearestBy seen_distance entries (seen_numbers clr) result }
+    {
+        let cell = cell_of(clr);
+        let near = usize::from(found[cell]).min(self.len - 1) as u8;
+        let nearest = self.nearest_from(ends, clr, near);
+        found[cell] = nearest;
+        nearest
     }
 
     /// Returns whether the entry of an index is close to a color.
