@@ -43,6 +43,7 @@ pub mod SeenItemGroups
 pub mod SeenMade
 pub mod FewGroups
 pub mod Singles
+pub mod SeenColors
 pub mod Totals
 pub mod SpanErrors
 pub mod Crossed

@@ -13,8 +13,19 @@ const BLOCKS: usize = 16;
 /// Fewer entries are searched no faster where blocks are passed by.
 const MANY: usize = 112;
 
-/// An entry is close to a color where their numbers over black differ by less than this in all.
-const CLOSE: u16 = 64;
+/// The number of cells of colors, each of 32 reds, greens, blues and alphas.
+pub(crate) const CELLS: usize = 4096;
+
+/// Returns the number of a color's cell.
+#[inline(always)]
+fn cell_of(clr: SeenColor) -> usize
+    ensures { result < 4096 }
+{
+    usize::from(clr.red) / 32 * 512
+        + usize::from(clr.green) / 32 * 64
+        + usize::from(clr.blue) / 32 * 8
+        + usize::from(clr.alpha) / 32
+}
 
 /// A copy of some colors that are seen, at least one and at most 256, in blocks of lanes.
 #[derive(Clone, Copy)]
@@ -68,7 +79,7 @@ impl SeenLanes {
         nearest_lane(&self.blocks[..(self.len + 15) / SIZE], both_views(clr))
     }
 
-    /// Returns the ends of its blocks, for [`SeenLanes::nearest_from`].
+    /// Returns the ends of its blocks, for [`SeenLanes::nearest_by_cell`].
     pub(crate) fn ends(&self) -> BlockEnds
         ensures { AreEnds self.now.blocks result }
     {
@@ -78,7 +89,7 @@ impl SeenLanes {
     /// Returns the index of the entry that is seen nearest to a color, the first of equals. Of many
     /// entries those are passed by whose blocks are farther than the nearest entry of the block of
     /// an index.
-    pub(crate) fn nearest_from(&self, ends: &BlockEnds, clr: SeenColor, near: u8) -> u8
+    fn nearest_from(&self, ends: &BlockEnds, clr: SeenColor, near: u8) -> u8
         requires seen { AreSeen (seen_numbers clr) }
         requires near { near < self.now.len }
         requires ends { AreEnds self.now.blocks ends.now }
@@ -92,30 +103,25 @@ impl SeenLanes {
         nearest_near(blocks, ends, both_views(clr), near)
     }
 
-    /// Returns whether the entry of an index is close to a color.
+    /// Returns the index of the entry that is seen nearest to a color, the first of equals. It
+    /// begins near the entry that was found last in the color's cell, and keeps the one that it
+    /// finds there. Any numbers may stand there at first.
     #[inline(always)]
-    fn is_close(&self, clr: SeenColor, near: u8) -> bool {
-        let block = &self.blocks[usize::from(near) / SIZE].black;
-        let i = usize::from(near) % SIZE;
-        let red = u16::from(block.red[i].abs_diff(clr.red));
-        let green = u16::from(block.green[i].abs_diff(clr.green));
-        let blue = u16::from(block.blue[i].abs_diff(clr.blue));
-        red + green + blue < CLOSE
-    }
-
-    /// Returns the index of the entry that is seen nearest to a color, the first of equals. Blocks
-    /// are passed by where the entry of an index is close to the color, since few are near then.
-    #[inline(always)]
-    pub(crate) fn nearest_if_close(&self, ends: &BlockEnds, clr: SeenColor, near: u8) -> u8
+    pub(crate) fn nearest_by_cell(
+        &self,
+        ends: &BlockEnds,
+        found: &mut [u8; CELLS],
+        clr: SeenColor,
+    ) -> u8
         requires seen { AreSeen (seen_numbers clr) }
-        requires near { near < self.now.len }
         requires ends { AreEnds self.now.blocks ends.now }
         ensures { (entries : List (List ℕ)) → AreSeenLanes entries self.now
             → IsNearestBy seen_distance entries (seen_numbers clr) result }
     {
-        if self.is_close(clr, near) {
-            return self.nearest_from(ends, clr, near);
-        }
-        self.nearest(clr)
+        let cell = cell_of(clr);
+        let near = usize::from(found[cell]).min(self.len - 1) as u8;
+        let nearest = self.nearest_from(ends, clr, near);
+        found[cell] = nearest;
+        nearest
     }
 }

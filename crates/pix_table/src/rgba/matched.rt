@@ -12,7 +12,7 @@ use crate::color::TablePixel;
 use crate::matching::candidates::ENTRIES;
 use crate::quantization::items::place_of;
 use crate::rgba::color::{RgbaColor, SeenColor, seen_of};
-use crate::rgba::lanes::SeenLanes;
+use crate::rgba::lanes::{CELLS, SeenLanes};
 use crate::rgba::near_blocks::BlockEnds;
 
 /// Returns how the entries of a table are seen, followed by others.
@@ -69,26 +69,25 @@ pub fn map_indexed_rgba<E: TablePixel, P: TablePixel>(
         index: lanes.nearest(seen_of(clear)),
     };
     let mut places = [first; PLACES];
-    let mut near = first.index;
+    let mut found = [first.index; CELLS];
     for k in 0..pixels.len() {
-        near = index_of(&lanes, &ends, &mut places, near, pixels[k]);
-        indices[k] = near;
+        let index = index_of(&lanes, &ends, &mut places, &mut found, pixels[k]);
+        indices[k] = index;
     }
 }
 
 /// Returns the index of the entry that is seen nearest to a pixel, the first of equals. It is
-/// searched for where the place of the pixel has another one, beginning near some entry.
+/// searched for where the place of the pixel has another one.
 #[inline(always)]
 fn index_of<P: TablePixel>(
     lanes: &SeenLanes,
     ends: &BlockEnds,
     places: &mut [MatchedPixel],
-    near: u8,
+    found: &mut [u8; CELLS],
     pixel: P,
 ) -> u8
     requires many { length places.old ≡ 1024 }
     requires ends { AreEnds lanes.now.blocks ends.now }
-    requires near { near < lanes.now.len }
     ensures nearest { (entries : List (List ℕ)) → AreSeenLanes entries lanes.now
         → AreMatchedPixels entries places.old
         → IsNearestBy seen_distance entries (seen (P.values pixel)) result }
@@ -101,7 +100,7 @@ fn index_of<P: TablePixel>(
     if place.key == key {
         return place.index;
     }
-    let index = lanes.nearest_if_close(ends, seen_of(pixel), near);
+    let index = lanes.nearest_by_cell(ends, found, seen_of(pixel));
     places[at] = MatchedPixel { key, index };
     index
 }

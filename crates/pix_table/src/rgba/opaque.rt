@@ -10,7 +10,7 @@ ghost use Rattle.pix_table.specs.quantization.SeenTables.{opaque_settled};
 use crate::matching::candidates::ENTRIES;
 use crate::quantization::items::{Counted, Items};
 use crate::rgba::color::{SeenColor, over_alpha};
-use crate::rgba::lanes::SeenLanes;
+use crate::rgba::lanes::{CELLS, SeenLanes};
 
 /// The least alpha of an entry that may become opaque. The eye can't tell it from an opaque one.
 const NEARLY: u8 = 250;
@@ -122,11 +122,11 @@ fn count_shares(colors: &[SeenColor], items: Items, entries: &[SeenColor], share
     let lanes = SeenLanes::of(entries);
     let ends = lanes.ends();
     shares.fill(Share { all: 0, opaque: 0 });
-    let mut near = 0;
+    let mut found = [0; CELLS];
     for k in 0..items.pairs + items.singles {
         let (clr, count) = items.item(colors, k);
         if 0 < count {
-            near = lanes.nearest_from(&ends, clr, near);
+            let near = lanes.nearest_by_cell(&ends, &mut found, clr);
             let entry = usize::from(near);
             shares[entry] = shares[entry].with(clr, count);
         }

@@ -10,7 +10,7 @@ use crate::matching::candidates::ENTRIES;
 use crate::quantization::items::{Counted, Items, count_colors};
 use crate::rgba::color::{SeenColor, same};
 use crate::rgba::groups::settled;
-use crate::rgba::lanes::SeenLanes;
+use crate::rgba::lanes::{CELLS, SeenLanes};
 use crate::rgba::opaque::{has_nearly_opaque, make_opaque};
 use crate::rgba::sums::SeenSums;
 
@@ -221,11 +221,11 @@ fn sum_groups(colors: &[SeenColor], items: Items, entries: &[SeenColor], sums: &
     let lanes = SeenLanes::of(entries);
     let ends = lanes.ends();
     sums.fill(SeenSums::none());
-    let mut near = 0;
+    let mut found = [0; CELLS];
     for k in 0..items.pairs + items.singles {
         let (clr, count) = items.item(colors, k);
         if 0 < count {
-            near = lanes.nearest_from(&ends, clr, near);
+            let near = lanes.nearest_by_cell(&ends, &mut found, clr);
             let entry = usize::from(near);
             sums[entry] = sums[entry].and(SeenSums::of_times(clr, count));
         }

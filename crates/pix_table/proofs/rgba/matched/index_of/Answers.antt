@@ -22,10 +22,10 @@ returns-then-place-key-clause-nearest g c = λ entries are places.
 
 pub returns-clause-nearest : goal.returns-clause-nearest
 returns-clause-nearest g c = λ entries are places.
-    subst (λ l. IsNearestBy seen_distance entries l c.nearest_if_close-index.result) c.seen_of.ensures.numbers (c.nearest_if_close-index.ensures entries are)
+    subst (λ l. IsNearestBy seen_distance entries l c.nearest_by_cell-index.result) c.seen_of.ensures.numbers (c.nearest_by_cell-index.ensures entries are)
 
 pub returns-clause-places : goal.returns-clause-places
 returns-clause-places g c = λ entries are places.
     let pixel : seen_numbers c.seen_of.result ≡ seen (seen_key_numbers c.key_of-key.result) = c.seen_of.ensures.numbers ∙ ap seen (sym c.key_of-key.ensures) in
     All-set (λ p. IsNearestBy seen_distance entries (seen (seen_key_numbers p.key)) p.index) _ _ _
-    (subst (λ l. IsNearestBy seen_distance entries l c.nearest_if_close-index.result) pixel (c.nearest_if_close-index.ensures entries are)) places
+    (subst (λ l. IsNearestBy seen_distance entries l c.nearest_by_cell-index.result) pixel (c.nearest_by_cell-index.ensures entries are)) places

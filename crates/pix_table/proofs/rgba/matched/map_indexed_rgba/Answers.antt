@@ -1,6 +1,6 @@
 -- Of `map_indexed_rgba`: that the invariant of its loop over `k` holds at first, and after each turn.
-use Rattle.std.proofs.Common.{arith, rules, ◌≡◌, ℕ, List, [], ap, sym, ◌∙◌, subst, map, get_or, length, length-set}
-use Rattle.std.proofs.lemmas.List.{get_or-map, length-map, length-replicate}
+use Rattle.std.proofs.Common.{arith, rules, ◌≡◌, ℕ, List, [], ap, sym, ◌∙◌, subst, map, get_or, length-set}
+use Rattle.std.proofs.lemmas.List.{get_or-map, length-replicate}
 use Rattle.std.proofs.lemmas.List.Elements.{All-replicate}
 use Rattle.pix_table.specs.matching.Nearest.{IsNearestBy}
 use Rattle.pix_table.specs.SeenPixels.{seen, seen_distance}
@@ -9,10 +9,6 @@ use Rattle.pix_table.specs.matching.SeenLanes.{AreSeenLanes}
 use Rattle.pix_table.specs.declared.rgba.matched.MatchedPixel.{MatchedPixel}
 use Rattle.pix_table.proofs.Writes.{set_more}
 use Rattle.pix_table.proofs.rgba.matched.map_indexed_rgba.Goals as goal
-
--- as many entries are seen as there are
-long_entries : {E : Type 0} (values : E → List ℕ) (entries : List E) → length (map seen (map values entries)) ≡ length entries
-long_entries values entries = length-map (map values entries) seen ∙ length-map entries values
 
 pub loop-k-init : goal.loop-k-init
 loop-k-init g c =
@@ -24,16 +20,9 @@ loop-k-init g c =
     record {
       long = c.requires.many;
       many = length-replicate 1024 first;
-      near = omega (arith, start.stands, long_entries g.E.TablePixel.values c.args.entries.now);
       places = All-replicate (λ p. IsNearestBy seen_distance entries (seen (seen_key_numbers p.key)) p.index) 1024 first start;
       matched = λ j below. absurd (omega (arith, below));
     }
-
-pub index_of-near-requires-clause-near : goal.index_of-near-requires-clause-near
-index_of-near-requires-clause-near g c =
-    let entries : List (List ℕ) = map seen (map g.E.TablePixel.values c.args.entries.now) in
-    let lanes : AreSeenLanes entries c.of-lanes.result = subst (λ l. AreSeenLanes l c.of-lanes.result) c.seen_entries-colors.ensures.numbers c.of-lanes.ensures in
-    omega (arith, lanes.len, long_entries g.E.TablePixel.values c.args.entries.now, c.loop-k.invariant.near)
 
 pub loop-k-preserved : goal.loop-k-preserved
 loop-k-preserved g c =
@@ -44,13 +33,12 @@ loop-k-preserved g c =
     let pixel : seen (g.P.TablePixel.values c.index-pixels-k.result) ≡ seen (get_or (map g.P.TablePixel.values pixels) k []) =
     ap (λ p. seen (g.P.TablePixel.values p)) c.index-pixels-k.is
     ∙ ap seen (sym (get_or-map g.P.TablePixel.values pixels k c.index-pixels-k.result [] (omega arith))) in
-    let found = c.index_of-near.ensures.nearest entries lanes c.loop-k.invariant.places in
+    let found = c.index_of-index.ensures.nearest entries lanes c.loop-k.invariant.places in
     record {
       long = length-set _ _ _ ∙ c.loop-k.invariant.long;
       many = search rules;
-      near = omega (arith, found.stands, long_entries g.E.TablePixel.values c.args.entries.now);
-      places = c.index_of-near.ensures.places entries lanes c.loop-k.invariant.places;
+      places = c.index_of-index.ensures.places entries lanes c.loop-k.invariant.places;
       matched = set_more (λ j i. IsNearestBy seen_distance entries (seen (get_or (map g.P.TablePixel.values pixels) j [])) i) c.loop-k.indices k
-          c.index_of-near.result (omega arith) c.loop-k.invariant.matched
-          (subst (λ l. IsNearestBy seen_distance entries l c.index_of-near.result) pixel found);
+          c.index_of-index.result (omega arith) c.loop-k.invariant.matched
+          (subst (λ l. IsNearestBy seen_distance entries l c.index_of-index.result) pixel found);
     }

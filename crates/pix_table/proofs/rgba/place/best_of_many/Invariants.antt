@@ -1,9 +1,9 @@
--- What holds at each turn of the loop over `k` in `best_seen_place`.
+-- What holds at each turn of the loop over `k` in `best_of_many`.
 use Rattle.std.proofs.Common.{map}
 use Rattle.pix_table.specs.quantization.BestPlaces.{IsBestUpToBy}
 use Rattle.pix_table.specs.SeenPixels.{seen_numbers}
 use Rattle.pix_table.specs.quantization.SeenSums.{seen_gain_at}
-use Rattle.pix_table.proofs.rgba.place.best_seen_place.Given as goal
+use Rattle.pix_table.proofs.rgba.place.best_of_many.Given as goal
 
 -- the best is that of the channels before k
 abbrev pub invariant-loop-k : goal.invariant-loop-k
