@@ -3,7 +3,6 @@ use Rattle.std.proofs.Common.{◌≡◌, ℕ, ◌+◌, ◌-◌, ◌*◌, ◌<◌
 use borrow.Rule.Slice.PartMut.{put_mid}
 use Rattle.std.proofs.Math.Nat.{mul-le-mul_left}
 use Rattle.std.proofs.lemmas.List.{drop-map, get_or-drop, take_all, length-drop}
-use Rattle.std.proofs.lemmas.Nat.{mul-add-lt}
 use Rattle.pix_scale.specs.Axis.{total, Axis, channel_at}
 use Rattle.pix_scale.specs.Table.{flat, row_term, pixel_term, tap, IsRow}
 use Rattle.pix_scale.proofs.Places.{column}

@@ -1,9 +1,9 @@
 -- What a row of a picture at another size needs of both sides.
-use Rattle.std.proofs.Common.{◌≡◌, ℕ, ◌+◌, ◌-◌, ◌*◌, ◌/◌, ◌^◌, ◌<◌, ◌≤◌, inl, inr, List, length, get_or, slice_index, arith, ap, ◌∙◌}
-use Rattle.std.proofs.Math.Nat.{mul-le-mul, mul-le-mul_left, mul-le-mul_right}
+use Rattle.std.proofs.Common.{ℕ, ◌+◌, ◌-◌, ◌*◌, ◌/◌, ◌<◌, ◌≤◌, arith}
+use Rattle.std.proofs.Math.Nat.{mul-le-mul_left}
 use Rattle.std.proofs.lemmas.Nat.{le-div}
-use Rattle.pix_scale.specs.Axis.{total, axis_of}
-use Rattle.pix_scale.specs.Table.{tap, IsSide, IsRow, IsTable}
+use Rattle.pix_scale.specs.Axis.{axis_of}
+use Rattle.pix_scale.specs.Table.{IsSide, IsRow}
 use Rattle.pix_scale.specs.declared.filter.Kernel.{Kernel}
 use Rattle.pix_scale.specs.declared.filter.Kernel.TheVariants.{Point, Box, Line, Triangle}
 use Rattle.pix_scale.proofs.Tables.{places_of}

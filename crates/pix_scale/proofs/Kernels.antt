@@ -1,17 +1,17 @@
 -- The weights of each kernel: where they are 0, and what they add up to.
 use Rattle.std.proofs.Common.{◌≡◌, ◌≢◌, ℕ, zero, suc, ◌+◌, ◌-◌, ◌*◌, ◌/◌, ◌<◌, ◌≤◌, inl, inr, min, arith, refl, sym, ap, subst, ◌∙◌, add-one}
-use Rattle.std.specs.Prelude.{max, if◌then◌else◌, Bool}
+use Rattle.std.specs.Prelude.{if◌then◌else◌, Bool}
 use Rattle.std.specs.Int.{abs_diff}
-use Rattle.std.proofs.Math.Nat.{mul-le-mul_right, mul-le-mul_left, div-mul-le_self, lt-mul-div-succ}
+use Rattle.std.proofs.Math.Nat.{mul-le-mul_right, div-mul-le_self, lt-mul-div-succ}
 use Rattle.std.proofs.lemmas.Nat.{div_below, le-div}
-use Rattle.std.proofs.lemmas.Bool.{cases_lt, cases_eq, eq-eqb, ne_eqb}
+use Rattle.std.proofs.lemmas.Bool.{cases_lt, eq-eqb, ne_eqb}
 use Rattle.pix_scale.specs.Axis.{total, overlap, held, nearness, rounded_part, mark, axis_of}
 use Rattle.pix_scale.specs.Table.{start_of, first_of, IsSide}
 use Rattle.pix_scale.proofs.Places.{only, before, nearest_place}
 use Rattle.pix_scale.specs.declared.filter.Kernel.{Kernel}
 use Rattle.pix_scale.specs.declared.filter.Kernel.TheVariants.{Point, Box, Line, Triangle}
 use Rattle.pix_scale.proofs.Windows.{total_part}
-use Rattle.pix_scale.proofs.Sums.{total_le, total_longer, total_same}
+use Rattle.pix_scale.proofs.Sums.{total_longer}
 
 -- place i of the new side ends within the old one
 pub within : {kernel : Kernel} (places size n m i : ℕ) → IsSide kernel places size n m → i < size → i * n + n ≤ places * m

@@ -1,6 +1,6 @@
 -- Sums whose weights may be negative.
 use Rattle.std.specs.Prelude.{◌≡◌, ◌≢◌, ℕ, ℤ, zero, suc, pos, negsuc, ◌+ℤ◌, ◌-ℤ◌, ◌*ℤ◌, ◌+◌, ◌-◌, ◌*◌, ◌/◌, ◌^◌, ◌<◌, ◌≤◌, List, length, map, slice_index, refl, Bool, nat_lt, if◌then◌else◌}
-use Rattle.std.proofs.Common.{inl, inr, min, get_or, take, drop, set, Fits, w32, get_or-set_other, get_or-set_same, below_more, arith, ap, sym, subst, ◌∙◌}
+use Rattle.std.proofs.Common.{inl, inr, min, get_or, take, drop, set, Fits, w32, get_or-set_other, get_or-set_same, below_more, arith, ap, sym, ◌∙◌}
 use borrow.Author.Differences.{up, down}
 use Rattle.std.proofs.lemmas.Int.{ints}
 use Rattle.std.proofs.lemmas.Bool.{cases_lt, cases_Bool, ltb-true}

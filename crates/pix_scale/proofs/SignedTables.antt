@@ -1,6 +1,6 @@
 -- Tables of the rows of a filter.
 use Rattle.std.specs.Prelude.{◌≡◌, ◌≢◌, ℕ, ◌+◌, ◌*◌, ◌<◌, ◌≤◌, List, length, slice_index, refl}
-use Rattle.std.proofs.Common.{inl, inr, suc, get_or, set, arith, sym, ap, subst, ◌∙◌, get_or-set_other, get_or-set_same}
+use Rattle.std.proofs.Common.{inl, inr, suc, get_or, set, arith, sym, subst, get_or-set_other, get_or-set_same}
 use borrow.Rule.Slice.PartMut.{put_mid}
 use Rattle.std.proofs.Math.Nat.{mul-le-mul_right}
 use Rattle.std.proofs.lemmas.Bool.{cases_lt}

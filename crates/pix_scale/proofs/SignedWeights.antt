@@ -1,16 +1,15 @@
 -- Rows of weights that may be negative.
-use Rattle.std.specs.Prelude.{◌≡◌, ◌≢◌, ℕ, ℤ, zero, suc, pos, ◌-ℤ◌, ◌+◌, ◌-◌, ◌*◌, ◌/◌, ◌<◌, ◌≤◌, min, max, List, length, slice_index, Bool, true, false, not, ◌&&◌, nat_eq, nat_lt, refl, if◌then◌else◌}
-use Rattle.std.proofs.Common.{inl, inr, get_or, arith, ap, sym, subst, ◌∙◌}
+use Rattle.std.specs.Prelude.{◌≡◌, ◌≢◌, ℕ, pos, ◌-ℤ◌, ◌+◌, ◌-◌, ◌*◌, ◌/◌, ◌<◌, ◌≤◌, List, slice_index, Bool, true, false, not, ◌&&◌, nat_eq, nat_lt, if◌then◌else◌}
+use Rattle.std.proofs.Common.{get_or, arith, ap, sym, ◌∙◌}
 use Rattle.std.proofs.Math.Nat.{mul-add-div_right}
-use Rattle.std.proofs.lemmas.Bool.{cases_lt, cases_Bool, and_parts, eq-eqb, ne_eqb, ltb-true}
+use Rattle.std.proofs.lemmas.Bool.{and_parts, eq-eqb, ne_eqb, ltb-true}
 use Rattle.pix_scale.specs.Axis.{total, rounded_part}
-use Rattle.pix_scale.specs.Table.{IsSide, tap}
+use Rattle.pix_scale.specs.Table.{IsSide}
 use Rattle.pix_scale.specs.Signed.{Taps, adds, takes, part_of, taps_of_filter, first_tap, first_near, whole_of, is_used, taps_by}
 use Rattle.pix_scale.specs.SignedTable.{near_weight, IsFilterRow}
 use Rattle.pix_scale.specs.declared.filter.SignedFilter.{SignedFilter}
 use Rattle.pix_scale.specs.declared.filter.Kernel.TheVariants.{Point}
 use Rattle.pix_scale.proofs.Kernels.{total_steps, part_up_to, part_of_none, nearest_within}
-use Rattle.pix_scale.proofs.Places.{nearest_place}
 use Rattle.pix_scale.proofs.Sums.{total_next, total_longer, total_same}
 use Rattle.pix_scale.proofs.Windows.{total_part, total_nothing}
 

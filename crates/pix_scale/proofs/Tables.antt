@@ -1,7 +1,7 @@
 -- Rows and tables of weights.
-use Rattle.std.proofs.Common.{◌≡◌, ℕ, ◌+◌, ◌-◌, ◌*◌, ◌<◌, ◌≤◌, List, length, get_or, arith, refl, sym, ap, subst, ◌∙◌}
-use Rattle.pix_scale.specs.Axis.{total, nearness, held, mark, rounded_part, axis_of}
-use Rattle.pix_scale.specs.Table.{tap, first_of, IsSide, IsRow, IsTable}
+use Rattle.std.proofs.Common.{◌≡◌, ℕ, ◌+◌, ◌-◌, ◌<◌, ◌≤◌, List, length, get_or, arith, refl, sym, ap, subst, ◌∙◌}
+use Rattle.pix_scale.specs.Axis.{total, nearness, mark, axis_of}
+use Rattle.pix_scale.specs.Table.{first_of, IsSide, IsRow, IsTable}
 use Rattle.pix_scale.specs.declared.filter.Kernel.{Kernel}
 use Rattle.pix_scale.specs.declared.filter.Kernel.TheVariants.{Point, Box, Line, Triangle}
 use Rattle.pix_scale.proofs.Places.{nearest_place}

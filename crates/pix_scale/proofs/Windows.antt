@@ -1,10 +1,10 @@
 -- Sums by tables are sums over all places.
-use Rattle.std.proofs.Common.{◌≡◌, ℕ, zero, suc, ◌+◌, ◌-◌, ◌*◌, ◌<◌, ◌≤◌, List, length, get_or, take, drop, slice_index, arith, refl, sym, ap, ◌∙◌}
-use Rattle.std.proofs.lemmas.List.{get_or-drop, length-take, length-drop, take_all}
+use Rattle.std.proofs.Common.{◌≡◌, ℕ, zero, suc, ◌+◌, ◌-◌, ◌*◌, ◌<◌, ◌≤◌, List, length, get_or, take, drop, arith, refl, sym, ap, ◌∙◌}
+use Rattle.std.proofs.lemmas.List.{length-take, length-drop}
 use Rattle.pix_scale.specs.Axis.{total, Axis}
 use Rattle.pix_scale.specs.Table.{row_term, pixel_term, IsRow, IsTable}
 use Rattle.pix_scale.proofs.Places.{column}
-use Rattle.pix_scale.proofs.Sums.{total_same, at_of_part, length_part}
+use Rattle.pix_scale.proofs.Sums.{total_same}
 
 -- a sum of a + b terms
 pub total_split : (a b : ℕ) (f : ℕ → ℕ) → total (a + b) f ≡ total a f + total b (λ k. f (a + k))

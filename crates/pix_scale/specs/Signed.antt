@@ -1,5 +1,5 @@
 -- Filters whose weights may be negative: what counts for a new pixel, and how it is cut.
-use Rattle.std.specs.Prelude.{◌≡◌, ◌≢◌, ℕ, ℤ, zero, suc, pos, ◌+ℤ◌, ◌-ℤ◌, ◌*ℤ◌, ◌+◌, ◌-◌, ◌*◌, ◌/◌, ◌%◌, ◌^◌, ◌<◌, min, max, List, [], map, slice_index, slice_index_or, Bool, not, ◌&&◌, nat_eq, nat_lt, if◌then◌else◌}
+use Rattle.std.specs.Prelude.{◌≡◌, ◌≢◌, ℕ, ℤ, zero, suc, pos, ◌+ℤ◌, ◌-ℤ◌, ◌*ℤ◌, ◌+◌, ◌-◌, ◌*◌, ◌/◌, ◌%◌, ◌^◌, ◌<◌, min, max, List, [], map, slice_index_or, Bool, not, ◌&&◌, nat_eq, nat_lt, if◌then◌else◌}
 use Rattle.std.specs.Int.{abs_diff}
 use Rattle.pix_el.specs.Pixel.{Layout}
 use Rattle.pix_chan.specs.Nearest.{nearest}

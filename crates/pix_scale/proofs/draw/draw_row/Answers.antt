@@ -1,6 +1,6 @@
-use Rattle.std.proofs.Common.{◌≡◌, ℕ, ◌+◌, ◌*◌, ◌^◌, ◌<◌, ◌≤◌, length, slice_index, arith, sym, ap, subst, ◌∙◌}
+use Rattle.std.proofs.Common.{◌≡◌, ◌+◌, ◌*◌, ◌^◌, length, slice_index, arith, sym, ap, subst, ◌∙◌}
 use Rattle.std.proofs.Math.Nat.{mul-le-mul_right}
-use Rattle.pix_scale.specs.Axis.{total, axis_of}
+use Rattle.pix_scale.specs.Axis.{total}
 use Rattle.pix_scale.specs.Table.{tap, side_axis, IsTable}
 use Rattle.pix_scale.proofs.Tables.{row_total}
 use Rattle.pix_scale.proofs.Draws.{whole_some, taps_some, factor_small, rows_lie}

@@ -1,4 +1,4 @@
-use Rattle.std.proofs.Common.{◌≡◌, ℕ, ◌+◌, ◌-◌, ◌*◌, ◌<◌, ◌≤◌, length, map, arith, rules, ap, ◌∙◌}
+use Rattle.std.proofs.Common.{◌≡◌, ℕ, ◌+◌, ◌-◌, ◌*◌, ◌≤◌, length, map, arith, rules, ap, ◌∙◌}
 use borrow.Author.Rules.{scaled_fits≤}
 use Rattle.pix_scale.proofs.Sums.{length_part}
 use Rattle.pix_scale.specs.Axis.{scaled, channel_at}

@@ -1,4 +1,4 @@
-use Rattle.std.proofs.Common.{◌≡◌, slice_index, length, ◌*◌, ◌^◌, arith, rules, ap, ◌∙◌}
+use Rattle.std.proofs.Common.{slice_index, ◌*◌, ◌^◌, arith, rules, ap, ◌∙◌}
 use Rattle.pix_scale.specs.Axis.{total}
 use Rattle.pix_scale.specs.Table.{row_term}
 use Rattle.pix_scale.proofs.Sums.{room, summed_more, below_32, at_of_part}

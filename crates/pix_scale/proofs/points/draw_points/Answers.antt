@@ -1,4 +1,4 @@
-use Rattle.std.proofs.Common.{◌≡◌, ℕ, ◌+◌, ◌-◌, ◌*◌, ◌<◌, ◌≤◌, length, get_or, map, take, drop, [], List, arith, rules, refl, sym, ap, subst, ◌∙◌}
+use Rattle.std.proofs.Common.{◌≡◌, ℕ, ◌+◌, ◌-◌, ◌*◌, ◌<◌, ◌≤◌, length, get_or, map, [], arith, rules, sym, ap, subst, ◌∙◌}
 use borrow.Author.Rules.{scaled_fits≤}
 use Rattle.pix_el.specs.Pixel.{Layout}
 use Rattle.pix_scale.specs.Axis.{scaled, channel_at}

@@ -1,5 +1,5 @@
 use Rattle.std.proofs.Common.{◌≤◌, ◌*◌, ap, arith}
-use Rattle.std.proofs.Math.Nat.{mul-le-mul_left, mul-le-mul_right, mul-le-mul}
+use Rattle.std.proofs.Math.Nat.{mul-le-mul_left, mul-le-mul}
 use Rattle.pix_scale.proofs.Calls.{sizes}
 use Rattle.pix_scale.proofs.refuse.words.Goals as goal
 

@@ -1,5 +1,5 @@
 use Rattle.std.specs.Prelude.{pos}
-use Rattle.std.proofs.Common.{◌≡◌, ℕ, length, map, get_or, take, replicate, slice_index, arith, refl, ap, ◌∙◌}
+use Rattle.std.proofs.Common.{◌≡◌, length, get_or, take, replicate, slice_index, arith, refl, ap, ◌∙◌}
 use Rattle.std.proofs.lemmas.List.{length-take}
 use Rattle.pix_chan.specs.Nearest.{nearest}
 use Rattle.pix_scale.specs.Axis.{total}

@@ -1,12 +1,12 @@
 use Rattle.std.specs.Prelude.{pos}
-use Rattle.std.proofs.Common.{◌≡◌, ℕ, ◌+◌, ◌-◌, ◌*◌, ◌<◌, ◌≤◌, length, map, get_or, slice_index, List, take, drop, arith, refl, sym, ap, ◌∙◌}
+use Rattle.std.proofs.Common.{◌≡◌, ℕ, ◌+◌, ◌-◌, ◌*◌, ◌<◌, length, map, get_or, slice_index, List, take, drop, arith, ap, ◌∙◌}
 use borrow.Rule.Slice.PartMut.{put_mid}
 use Rattle.std.proofs.Math.Nat.{mul-le-mul_right}
 use Rattle.std.proofs.lemmas.Nat.{mul-add-lt}
 use Rattle.pix_el.specs.Pixel.{Layout}
 use Rattle.pix_chan.specs.Nearest.{nearest}
 use Rattle.pix_scale.specs.Axis.{total, channel_at}
-use Rattle.pix_scale.specs.Table.{tap, flat, row_term}
+use Rattle.pix_scale.specs.Table.{flat}
 use Rattle.pix_scale.proofs.Places.{column}
 use Rattle.pix_scale.proofs.Sums.{sum_small, length_part}
 use Rattle.pix_scale.proofs.Drawn.{sub_times, in_sums, sums_read, pixel_small_at}

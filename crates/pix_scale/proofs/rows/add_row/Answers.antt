@@ -1,7 +1,7 @@
 use Rattle.std.proofs.Common.{◌≡◌, ℕ, ◌+◌, ◌-◌, ◌*◌, ◌/◌, ◌<◌, ◌≤◌, List, length, map, take, drop, get_or, arith, rules, sym, ap, subst, ◌∙◌}
 use borrow.Rule.Slice.PartMut.{put_mid}
 use Rattle.pix_scale.specs.Table.{flat}
-use Rattle.pix_scale.proofs.Blocks.{Cut, cut_at, both_parts, behind_front}
+use Rattle.pix_scale.proofs.Blocks.{cut_at, both_parts, behind_front}
 use Rattle.pix_scale.proofs.Flat.{flat_part}
 use Rattle.pix_scale.proofs.Parts.{length-put_mid}
 use Rattle.pix_scale.proofs.Sums.{length_part, at_of_part}

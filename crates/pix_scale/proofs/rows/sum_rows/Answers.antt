@@ -1,4 +1,4 @@
-use Rattle.std.proofs.Common.{◌≡◌, ℕ, ◌+◌, ◌-◌, ◌*◌, ◌<◌, length, map, arith, ap, ◌∙◌}
+use Rattle.std.proofs.Common.{◌≡◌, ℕ, ◌+◌, ◌-◌, ◌*◌, ◌<◌, map, arith, ap, ◌∙◌}
 use Rattle.pix_el.specs.Pixel.{Layout}
 use Rattle.pix_scale.specs.Table.{flat}
 use Rattle.pix_scale.proofs.Sums.{room, summed_more}

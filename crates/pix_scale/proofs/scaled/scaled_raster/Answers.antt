@@ -1,6 +1,6 @@
 -- Of `scaled_raster`: that the memory of both rasters fits, and that the pixels are those of the
 -- window.
-use Rattle.std.proofs.Common.{◌≡◌, ℕ, ◌*◌, List, ◌++◌, length, take, drop, map, sym, ap, ◌∙◌, arith, rules}
+use Rattle.std.proofs.Common.{◌≡◌, ◌*◌, ◌++◌, length, take, drop, ap, ◌∙◌, arith, rules}
 use Rattle.std.proofs.lemmas.List.{take-append-le}
 use Rattle.std.proofs.Math.Seq.{take-length}
 use Rattle.pix_scale.specs.Call.{whole_rows, words}

@@ -1,5 +1,4 @@
-use Rattle.std.proofs.Common.{◌≡◌, ◌*◌, length, arith, ap}
-use Rattle.pix_scale.specs.SignedCall.{signed_count}
+use Rattle.std.proofs.Common.{◌*◌, length, arith, ap}
 use Rattle.pix_scale.proofs.SignedCalls.{signed_sizes, signed_memory, point_side, count_is, cut_is}
 use Rattle.pix_scale.proofs.signed_draw.draw_signed.Goals as goal
 

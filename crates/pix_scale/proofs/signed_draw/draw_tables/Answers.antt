@@ -1,7 +1,6 @@
-use Rattle.std.proofs.Common.{◌≡◌, ℕ, ◌+◌, ◌*◌, map, arith, sym, ap, ◌∙◌}
+use Rattle.std.proofs.Common.{◌*◌, map, arith, sym, ap, ◌∙◌}
 use Rattle.pix_scale.specs.Axis.{channel_at}
-use Rattle.pix_scale.specs.Signed.{taps_by, taps_of_filter}
-use Rattle.pix_scale.specs.SignedTable.{taps_at}
+use Rattle.pix_scale.specs.Signed.{taps_of_filter}
 use Rattle.pix_scale.proofs.SignedRows.{same_cut}
 use Rattle.pix_scale.proofs.SignedTables.{row_is_by}
 use Rattle.pix_scale.proofs.signed_draw.draw_tables.Goals as goal

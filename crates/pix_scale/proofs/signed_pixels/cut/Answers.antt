@@ -1,5 +1,5 @@
 use Rattle.std.specs.Prelude.{pos, ◌-ℤ◌, ℤ}
-use Rattle.std.proofs.Common.{◌≡◌, ◌+◌, ◌-◌, arith, ap, ◌∙◌}
+use Rattle.std.proofs.Common.{◌≡◌, ◌+◌, arith, ap, ◌∙◌}
 use Rattle.std.proofs.lemmas.Int.{ints}
 use Rattle.pix_chan.specs.Nearest.{nearest}
 use Rattle.pix_scale.proofs.Narrow.{nearest_same}

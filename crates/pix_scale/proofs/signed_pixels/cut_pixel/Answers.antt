@@ -1,12 +1,7 @@
 use Rattle.std.specs.Prelude.{pos, ◌-ℤ◌, ℤ}
-use Rattle.std.proofs.Common.{◌≡◌, ℕ, ◌+◌, ◌*◌, ◌^◌, ◌<◌, ◌≤◌, length, map, get_or, slice_index, arith, ap, sym, ◌∙◌}
+use Rattle.std.proofs.Common.{◌≡◌, ℕ, ◌+◌, ◌<◌, length, get_or, slice_index, arith, ap, ◌∙◌}
 use Rattle.std.proofs.lemmas.List.{length-map, map-set}
-use Rattle.pix_el.specs.Pixel.{Layout}
-use Rattle.pix_scale.specs.Axis.{total}
-use Rattle.pix_scale.specs.Table.{row_term}
-use Rattle.pix_scale.specs.Signed.{cut_by}
 use Rattle.pix_scale.specs.SignedTable.{left}
-use Rattle.pix_scale.proofs.Sums.{sum_small, below_32}
 use Rattle.pix_scale.proofs.Terms.{made_none, made_more}
 use Rattle.pix_scale.proofs.SignedSums.{cut_at, first_numbers, sums_fit, left_by}
 use Rattle.pix_scale.proofs.signed_pixels.cut_pixel.Goals as goal

@@ -1,5 +1,5 @@
 -- What holds at each turn of the loop over `c` in `cut_pixel`.
-use Rattle.std.proofs.Common.{◌≡◌, length, map}
+use Rattle.std.proofs.Common.{map}
 use Rattle.pix_scale.specs.Signed.{cut_by}
 use Rattle.pix_scale.specs.SignedTable.{left}
 use Rattle.pix_scale.proofs.Terms.{Made}

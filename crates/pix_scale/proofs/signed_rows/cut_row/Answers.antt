@@ -1,5 +1,4 @@
-use Rattle.std.specs.Prelude.{ℤ}
-use Rattle.std.proofs.Common.{◌≡◌, ℕ, ◌+◌, ◌-◌, ◌*◌, ◌<◌, ◌≤◌, length, map, get_or, slice_index, List, arith, rules, sym, ap, ◌∙◌}
+use Rattle.std.proofs.Common.{◌≡◌, ℕ, ◌+◌, ◌-◌, ◌*◌, ◌<◌, ◌≤◌, length, map, get_or, slice_index, List, arith, rules, ap, ◌∙◌}
 use borrow.Rule.Slice.PartMut.{put_mid}
 use Rattle.std.proofs.Math.Nat.{mul-le-mul_right}
 use Rattle.std.proofs.lemmas.Nat.{mul-add-lt}
@@ -8,7 +7,6 @@ use Rattle.pix_scale.specs.Signed.{sum_by}
 use Rattle.pix_scale.specs.SignedTable.{left_at, taps_at, taps_of}
 use Rattle.pix_scale.proofs.Drawn.{sub_times, in_sums}
 use Rattle.pix_scale.proofs.Parts.{length-put_mid}
-use Rattle.pix_scale.proofs.Sums.{length_part}
 use Rattle.pix_scale.proofs.Windows.{rows_fit, length_rest}
 use Rattle.pix_scale.proofs.SignedSums.{cut_same}
 use Rattle.pix_scale.proofs.SignedRows.{rows_read, left_is, window_size}

@@ -1,10 +1,10 @@
-use Rattle.std.proofs.Common.{◌≡◌, ℕ, ◌+◌, ◌-◌, ◌*◌, ◌<◌, ◌≤◌, length, map, get_or, take, drop, slice_index, arith, rules, ap, ◌∙◌}
+use Rattle.std.proofs.Common.{ℕ, ◌+◌, ◌-◌, ◌*◌, ◌≤◌, length, map, arith, rules, ◌∙◌}
 use borrow.Author.Rules.{scaled_fits≤}
 use Rattle.std.proofs.lemmas.Nat.{row_fits}
-use Rattle.pix_scale.specs.Axis.{total, channel_at}
+use Rattle.pix_scale.specs.Axis.{channel_at}
 use Rattle.pix_scale.specs.Signed.{cut_by, sum_by}
-use Rattle.pix_scale.specs.SignedTable.{taps_at, taps_of}
-use Rattle.pix_scale.proofs.Sums.{length_part, tap_total}
+use Rattle.pix_scale.specs.SignedTable.{taps_at}
+use Rattle.pix_scale.proofs.Sums.{length_part}
 use Rattle.pix_scale.proofs.Written.{rows_none, rows_more}
 use Rattle.pix_scale.proofs.SignedRows.{same_cut, same_taps, row_taps, part_adds, some_weights}
 use Rattle.pix_scale.proofs.signed_rows.cut_rows.Goals as goal

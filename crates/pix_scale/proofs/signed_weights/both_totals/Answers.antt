@@ -1,4 +1,4 @@
-use Rattle.std.proofs.Common.{arith, refl, ap, ◌+◌, ◌-◌, ◌∙◌}
+use Rattle.std.proofs.Common.{arith, refl, ap, ◌∙◌}
 use Rattle.pix_scale.specs.Signed.{raised, adds, takes}
 use Rattle.pix_scale.proofs.Sums.{total_next}
 use Rattle.pix_scale.proofs.signed_weights.both_totals.Goals as goal

@@ -1,5 +1,5 @@
 use Rattle.std.proofs.Common.{arith}
-use Rattle.pix_scale.proofs.Terms.{made_none, made_more}
+use Rattle.pix_scale.proofs.Terms.{made_none}
 use Rattle.pix_scale.proofs.weights.overlaps.Goals as goal
 
 pub loop-k-init : goal.loop-k-init

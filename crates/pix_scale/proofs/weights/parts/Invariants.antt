@@ -1,5 +1,5 @@
 -- What holds at each turn of the loop over `k` in `parts`.
-use Rattle.std.proofs.Common.{◌≡◌, ◌+◌, length}
+use Rattle.std.proofs.Common.{◌≡◌, ◌+◌}
 use Rattle.pix_scale.specs.Axis.{total, nearness}
 use Rattle.pix_scale.proofs.Terms.{Made}
 use Rattle.pix_scale.proofs.Kernels.{part_at}

@@ -1,4 +1,4 @@
-use Rattle.std.proofs.Common.{arith, refl, add-one, ◌+◌}
+use Rattle.std.proofs.Common.{arith, refl, ◌+◌}
 use Rattle.pix_scale.specs.Axis.{nearness}
 use Rattle.pix_scale.proofs.Sums.{total_next}
 use Rattle.pix_scale.proofs.weights.sum_nearness.Goals as goal

@@ -1,6 +1,5 @@
-use Rattle.std.proofs.Common.{◌≡◌, ℕ, ◌+◌, ◌-◌, ◌*◌, length, arith, ap, ◌∙◌}
+use Rattle.std.proofs.Common.{◌+◌, ◌-◌, ◌*◌, length, arith, ap, ◌∙◌}
 use Rattle.std.specs.Int.{abs_diff}
-use Rattle.pix_scale.specs.Axis.{nearness, mark, total}
 use Rattle.pix_scale.specs.declared.filter.Kernel.TheVariants.{Point, Box, Line, Triangle}
 use Rattle.pix_scale.proofs.Tables.{row_by, point_weighs, marks_from, some_from}
 use Rattle.pix_scale.proofs.weights.weigh.Goals as goal

@@ -1,4 +1,4 @@
-use Rattle.std.proofs.Common.{◌/◌, arith, ap, sym, ◌∙◌}
+use Rattle.std.proofs.Common.{◌/◌, ap, sym, ◌∙◌}
 use Rattle.pix_scale.specs.Axis.{axis_of, kernel_of, lowest}
 use Rattle.pix_scale.specs.declared.filter.Kernel.{Kernel}
 use Rattle.std.proofs.Math.Nat.{div-mul_cancel}
