@@ -60,6 +60,15 @@ impl Item<Color> for Color {
     ghost numbers = { λ color. numbers color ++ 1 ∷ [] };
 
     #[inline(always)]
+    fn kept(self) -> Color {
+        Color {
+            red: self.red,
+            green: self.green,
+            blue: self.blue,
+        }
+    }
+
+    #[inline(always)]
     fn channel(self, k: usize) -> u8 {
         channel(self, k)
     }
@@ -76,6 +85,11 @@ impl Item<Color> for Color {
 /// A color, and one that stands for its count.
 impl Item<Color> for [Color; 2] {
     ghost numbers = { λ pair. item_of (map numbers pair) };
+
+    #[inline(always)]
+    fn kept(self) -> [Color; 2] {
+        self
+    }
 
     #[inline(always)]
     fn channel(self, k: usize) -> u8 {

@@ -241,8 +241,8 @@ fn partition_in<C: Cutting, I: Item<C>>(items: &mut [I], k: usize, value: u8) ->
 {
     let mut at = 0;
     for i in 0..items.len() {
-        let is_low = items[i].channel(k) < value;
-        exchange(items, at, i);
+        let is_low = items[i].kept().channel(k) < value;
+        exchange::<C, I>(items, at, i);
         at += usize::from(is_low);
     }
     at

@@ -30,6 +30,10 @@ pub(crate) trait Item<C: Cutting>: Copy {
     /// The numbers of the color, and behind them how often it stands.
     ghost numbers: { Self → List ℕ };
 
+    /// Returns the item. Where a copy would go by memory, its numbers go by registers.
+    fn kept(self) -> Self
+        ensures { result ≡ self };
+
     /// Returns the number of a channel of the color.
     fn channel(self, k: usize) -> u8
         requires { k < C.channels }

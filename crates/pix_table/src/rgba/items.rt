@@ -63,6 +63,11 @@ impl Item<SeenColor> for SeenColor {
     ghost numbers = { λ color. seen_numbers color ++ 1 ∷ [] };
 
     #[inline(always)]
+    fn kept(self) -> SeenColor {
+        self
+    }
+
+    #[inline(always)]
     fn channel(self, k: usize) -> u8 {
         seen_channel(self, k)
     }
@@ -79,6 +84,11 @@ impl Item<SeenColor> for SeenColor {
 /// A color, and one that stands for its count.
 impl Item<SeenColor> for [SeenColor; 2] {
     ghost numbers = { λ pair. item_of (map seen_numbers pair) };
+
+    #[inline(always)]
+    fn kept(self) -> [SeenColor; 2] {
+        self
+    }
 
     #[inline(always)]
     fn channel(self, k: usize) -> u8 {

@@ -13,7 +13,7 @@ loop-i-preserved g c =
     let at : ℕ = c.loop-i.at in
     let inside : c.loop-i.i < length c.loop-i.items = omega arith in
     let here : (d : g.row.I.Denot) → c.channel.result ≡ f (get_or c.loop-i.items c.loop-i.i d) =
-    (λ d. c.channel.ensures ∙ ap f (c.index-items-i.is ∙ get_or_default c.loop-i.items c.loop-i.i _ d inside)) in
+    (λ d. c.channel.ensures ∙ ap f (c.kept.ensures ∙ c.index-items-i.is ∙ get_or_default c.loop-i.items c.loop-i.i _ d inside)) in
     elim (cases_lt c.channel.result c.args.value) [
       | inl b ↦
           let one : c.from-at.result ≡ 1 = c.from-at.ensures ∙ ap bool_byte (lt-ltb _ _ b) in

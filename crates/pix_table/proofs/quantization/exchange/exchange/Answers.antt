@@ -42,8 +42,8 @@ returns-clause-permutation g c =
     let y = c.index-items-j.result in
     IsPermutation-swap xs _ c.args.i c.args.j c.requires.first c.requires.second
     (after xs _ c.args.i c.args.j c.requires.first c.requires.second
-    (λ d. ap₂ (λ a b. set (set c.args.items.now c.args.i a) c.args.j b) (c.index-items-j.is ∙ get_or_default xs c.args.j y d c.requires.second)
-    (c.index-items-i.is ∙ get_or_default xs c.args.i x d c.requires.first)) x)
+    (λ d. ap₂ (λ a b. set (set c.args.items.now c.args.i a) c.args.j b) (c.kept-second.ensures ∙ c.index-items-j.is ∙ get_or_default xs c.args.j y d c.requires.second)
+    (c.kept-first.ensures ∙ c.index-items-i.is ∙ get_or_default xs c.args.i x d c.requires.first)) x)
 
 pub returns-clause-by_index : goal.returns-clause-by_index
 returns-clause-by_index g c =
@@ -51,5 +51,5 @@ returns-clause-by_index g c =
     let x = c.index-items-i.result in
     let y = c.index-items-j.result in
     exchanged xs _ c.args.i c.args.j c.requires.first c.requires.second
-    (λ d. ap₂ (λ a b. set (set c.args.items.now c.args.i a) c.args.j b) (c.index-items-j.is ∙ get_or_default xs c.args.j y d c.requires.second)
-    (c.index-items-i.is ∙ get_or_default xs c.args.i x d c.requires.first))
+    (λ d. ap₂ (λ a b. set (set c.args.items.now c.args.i a) c.args.j b) (c.kept-second.ensures ∙ c.index-items-j.is ∙ get_or_default xs c.args.j y d c.requires.second)
+    (c.kept-first.ensures ∙ c.index-items-i.is ∙ get_or_default xs c.args.i x d c.requires.first))
