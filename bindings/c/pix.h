@@ -594,15 +594,15 @@ typedef struct {
     uint32_t taps;          /* from 1 to the side of the source */
 } pix_weights;
 
-/* Returns how many words of work memory pix_scale_by takes for an image of the size `to`, made of one
- * of the size `from`, by tables of `taps` weights for a column and `row_taps` for a row. It is 0
- * if pix_scale_by returns PIX_NO_SIDE or PIX_TOO_LARGE for this source, or if a table has more weights
- * for a place than the source has places, and else at least 1. */
+/* Returns how many words of work memory pix_scale_by takes. The image has the size `to`, and its
+ * source the size `from`. A column has `taps` weights, and a row `row_taps`. It is 0 if pix_scale_by
+ * returns PIX_NO_SIDE or PIX_TOO_LARGE for this source, or if the source has fewer columns or rows
+ * than that. Else it is at least 1. */
 static inline size_t pix_scale_by_work(pix_size to, pix_size from, uint32_t taps, uint32_t row_taps);
 
-/* Writes a picture at another size by two tables of the caller's own: for a filter that pix_filter
- * has not, for a picture that is moved by a part of a pixel, or for one that is mirrored. `across`
- * is the table of the columns of `to`, and `down` that of its rows. Each channel is the sum of those
+/* Writes a picture at another size by two tables of your own. So a picture is scaled by any filter,
+ * moved by a part of a pixel, or mirrored. `across` is the table of the columns of `to`, and `down`
+ * that of its rows. Each channel is the sum of those
  * of the source by both weights. It is rounded once, to the nearest, ties up. An alpha is cut at 0
  * and at the greatest channel, and a color at 0 and at the new alpha. `work` has `words` words, at
  * least as many as pix_scale_by_work says. Here a row of four pixels becomes one of two means:
@@ -614,8 +614,7 @@ static inline size_t pix_scale_by_work(pix_size to, pix_size from, uint32_t taps
  *
  * Returns PIX_OK, PIX_NO_SIDE (of the source), PIX_TOO_LARGE (a side of the source is above 65535),
  * PIX_BAD_SIZE, PIX_BAD_SOURCE, PIX_BAD_WEIGHTS (a table is not as pix_weights says),
- * PIX_SMALL_WORK, PIX_BAD_LENGTH (more words or weights than memory holds), PIX_NULL or
- * PIX_OVERLAP. */
+ * PIX_SMALL_WORK, PIX_BAD_LENGTH, PIX_NULL or PIX_OVERLAP. */
 static inline pix_status pix_scale_by(pix_image to, pix_view from, pix_weights across, pix_weights down, uint32_t *work,
                                       size_t words);
 
@@ -881,9 +880,10 @@ typedef struct {
  * pix_clear_rgba16, pix_copy_color_rgba16, pix_copy_image_rgba16, pix_composite_color_rgba16,
  * pix_composite_image_rgba16, pix_composite_matte_rgba16 and pix_composite_image_matte_rgba16
  * (through a pix_matte16), pix_composite_image_alpha_rgba16 (at a uint16_t), pix_run_rgba16,
- * pix_run_window_rgba16, pix_do_rgba16, pix_repeat_image_rgba16, pix_scale_rgba16,
- * pix_scale_work_rgba16, pix_scale_by_rgba16 and pix_scale_by_work_rgba16. The same are there with
- * _graya8 (through a pix_matte, at a uint8_t). They are defined below, together with those above. */
+ * pix_run_window_rgba16, pix_do_rgba16 and pix_repeat_image_rgba16. For pictures at another size
+ * there are pix_scale_rgba16, pix_scale_work_rgba16, pix_scale_by_rgba16 and
+ * pix_scale_by_work_rgba16. The same are there with _graya8 (through a pix_matte, at a uint8_t).
+ * They are defined below, together with those above. */
 
 /* Composites a color with an image of 16 bits a channel through a mask of 8 bits, as a rasterizer of
  * glyphs makes it: 255 is all of the color. Each value counts as 257 times itself in a pix_matte16.
