@@ -38,6 +38,9 @@ pub(crate) fn draw_weighted<P: Pixel, D: Stored<P>>(
     ensures { IsCut D.reads P.layout (given firsts.now taps weights.now)
         (given lines.now lines_taps lines_weights.now) rows source from.now to.old to.new }
 {
+    if rows.width == 0 {
+        return;
+    }
     let (plus, rest) = work.split_at_mut(weights.len());
     let (minus, rest) = rest.split_at_mut(weights.len());
     let (lines_plus, rest) = rest.split_at_mut(lines_weights.len());
