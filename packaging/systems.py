@@ -125,7 +125,7 @@ def compiled(clang, kept, made, name, room):
 
 def compared(clang, kept, made, whole, room):
     """Compares the object for macOS with that of the same module for Linux, which leaves the registers alone that macOS keeps, and returns how many of how many
-    functions are the same; prints each that is not, and ends the run where these are more than a quarter."""
+    functions are the same; prints each that is not, and ends the run where these are more than three in ten."""
     module, like = room / "like.ll", room / "like.o"
     module.write_text(re.sub(r"^(attributes #\d+ = \{)", r'\1 "frame-pointer"="reserved"', kept.text, flags=re.M), encoding="utf-8")
     was = next(word for word in kept.words if word.startswith("--target=")).partition("=")[2]
@@ -135,7 +135,7 @@ def compared(clang, kept, made, whole, room):
     other = [f"{name} {why}" for name, why in found if why]
     for line in other:
         print(f"tools/generate: note: {made.name}: {line[:300]}")
-    if 4 * len(other) > len(found):
+    if 10 * len(other) > 3 * len(found):
         stop(f"{made.name} is other code than that of Linux in {len(other)} of {len(found)} functions")
     return f"{len(found) - len(other)} of {len(found)}"
 
