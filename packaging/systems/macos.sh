@@ -23,7 +23,7 @@ print(f"{len(found)} functions: {len(same)} are the same, and {len(other)} are o
 for name, why in found:
     if why:
         print(f"{name} {why}")
-assert said and int(said[2]) == len(found) and 4 * (len(found) - int(said[1])) <= len(found), "the head does not say that the functions were compared"
+assert said and int(said[2]) == len(found) and 10 * (len(found) - int(said[1])) <= 3 * len(found), "the head does not say that the functions were compared"
 assert not any("stands where" in why or why.startswith("there are") for _, why in found if why) and 10 * len(other) <= len(found)
 END
 }
