@@ -1,129 +1,112 @@
 //! Rasters made of bytes, words and pixels, and taken apart into them.
-ghost use Rattle.std.specs.Prelude.{◌≤◌};
-
 use crate::flaw::Flaw;
 use crate::images::{all, picture, put, size, text};
 use crate::words::{bytes, hexadecimal};
-use pix::chan::{Ch8, Ch16, Channel, Gamma, Linear, Srgb, Straight};
+use pix::chan::{Alpha, Ch8, Ch16, Channel, Gamma};
 use pix::el::{Pix, Pixel};
-use pix::gray::{Gray, Gray8};
-use pix::rgb::Rgb;
 use pix::{ColorModel, Raster, RasterFault};
 use std::alloc::Global;
 
-/// `rgba8 1x1 01020304`: the format and the size of a raster, and the bytes that it is made of. The
-/// column, the row and the color of a pixel may follow, which is then written. The answer is the
-/// size and the pixels of the raster, or why there is none, and the bytes that come back.
-pub(crate) fn of_bytes(words: &[&str], alloc: Global) -> Result<String, Flaw> {
-    let [format, word, buffer, written @ ..] = words else {
+/// A format of eight bits, of whose rasters bytes are made.
+pub(crate) trait Bytes: Pixel {
+    /// The raster of a width, a height and bytes.
+    fn of_bytes(
+        sides: (u32, u32),
+        bytes: Vec<u8>,
+        alloc: Global,
+    ) -> Result<Raster<Self>, (RasterFault, Vec<u8>)>;
+
+    /// The bytes of a raster: in a copy, and those that it is made into.
+    fn both(raster: Raster<Self>, alloc: Global) -> Result<(Vec<u8>, Vec<u8>), Flaw>;
+}
+
+impl<const N: usize, M: ColorModel, A: Alpha, G: Gamma<Ch8>> Bytes for Pix<N, Ch8, M, A, G> {
+    fn of_bytes(
+        (width, height): (u32, u32),
+        bytes: Vec<u8>,
+        alloc: Global,
+    ) -> Result<Raster<Self>, (RasterFault, Vec<u8>)> {
+        Raster::<Pix<N, Ch8, M, A, G>>::with_u8_buffer(alloc, width, height, bytes)
+    }
+
+    fn both(raster: Raster<Self>, alloc: Global) -> Result<(Vec<u8>, Vec<u8>), Flaw> {
+        let copied = raster.to_u8_vec(alloc)?;
+        Ok((copied, raster.into_u8_vec(alloc)?))
+    }
+}
+
+/// A format of sixteen bits, of whose rasters words are made.
+pub(crate) trait Words: Pixel {
+    /// The raster of a width, a height and words.
+    fn of_words(
+        sides: (u32, u32),
+        words: Vec<u16>,
+        alloc: Global,
+    ) -> Result<Raster<Self>, (RasterFault, Vec<u16>)>;
+
+    /// The words that a raster is made into.
+    fn into_words(raster: Raster<Self>, alloc: Global) -> Result<Vec<u16>, Flaw>;
+}
+
+impl<const N: usize, M: ColorModel, A: Alpha, G: Gamma<Ch16>> Words for Pix<N, Ch16, M, A, G> {
+    fn of_words(
+        (width, height): (u32, u32),
+        words: Vec<u16>,
+        alloc: Global,
+    ) -> Result<Raster<Self>, (RasterFault, Vec<u16>)> {
+        Raster::<Pix<N, Ch16, M, A, G>>::with_u16_buffer(alloc, width, height, words)
+    }
+
+    fn into_words(raster: Raster<Self>, alloc: Global) -> Result<Vec<u16>, Flaw> {
+        Ok(raster.into_u16_vec(alloc)?)
+    }
+}
+
+/// `1x1 01020304`: the size of a raster, and the bytes that it is made of. The column, the row and
+/// the color of a pixel may follow, which is then written. The answer is the size and the pixels of
+/// the raster, or why there is none, and the bytes that come back.
+pub(crate) fn of_bytes<P: Bytes>(words: &[&str], alloc: Global) -> Result<String, Flaw> {
+    let [word, buffer, written @ ..] = words else {
         return Err(Flaw::Count);
     };
-    let (size, buffer) = (size(word)?, bytes(buffer, alloc)?);
-    match *format {
-        "gray8" => of_model::<1, Gray, Linear>(size, buffer, written, alloc),
-        "rgba8" => of_model::<4, Rgb, Linear>(size, buffer, written, alloc),
-        "srgb8" => of_model::<3, Rgb, Srgb>(size, buffer, written, alloc),
-        _ => Err(Flaw::Name),
-    }
-}
-
-/// The answer of [`of_bytes`] for a format of `N` channels.
-fn of_model<const N: usize, M, G>(
-    sides: (u32, u32),
-    buffer: Vec<u8>,
-    written: &[&str],
-    alloc: Global,
-) -> Result<String, Flaw>
-where
-    M: ColorModel,
-    G: Gamma<Ch8>,
-    requires { N ≤ 4 }
-{
-    let (width, height) = sides;
-    match Raster::<Pix<N, Ch8, M, Straight, G>>::with_u8_buffer(alloc, width, height, buffer) {
+    let (made, back) = match P::of_bytes(size(word)?, bytes(buffer, alloc)?, alloc) {
         Ok(mut raster) => {
-            let made = written_picture(&mut raster, written, alloc)?;
-            let back = raster.into_u8_vec(alloc)?;
-            with_bytes(made.as_str(), &back, alloc)
+            match written {
+                [] => {}
+                [x, y, color] => put(&mut raster, x, y, color, alloc)?,
+                _ => return Err(Flaw::Count),
+            }
+            (picture(&raster, alloc)?, P::both(raster, alloc)?.1)
         }
-        Err((fault, back)) => refused(fault, &back, written, alloc),
-    }
+        Err((fault, back)) if written.is_empty() => (format!(in alloc; "{fault}")?, back),
+        Err(_) => return Err(Flaw::Refused),
+    };
+    let back = hexadecimal(&back, alloc)?;
+    Ok(format!(in alloc; "{made} / {back}")?)
 }
 
-/// Why there is no raster to write to, and the bytes that come back.
-fn refused(
-    fault: RasterFault,
-    back: &[u8],
-    written: &[&str],
-    alloc: Global,
-) -> Result<String, Flaw> {
-    if !written.is_empty() {
-        return Err(Flaw::Refused);
-    }
-    let fault = format!(in alloc; "{fault}")?;
-    with_bytes(fault.as_str(), back, alloc)
-}
-
-/// The size and the pixels of a raster, once the pixel of these words is written, if there are any.
-fn written_picture<P: Pixel>(
-    raster: &mut Raster<P>,
-    written: &[&str],
-    alloc: Global,
-) -> Result<String, Flaw> {
-    match written {
-        [] => {}
-        [x, y, color] => put(raster, x, y, color, alloc)?,
-        _ => return Err(Flaw::Count),
-    }
-    picture(raster, alloc)
-}
-
-/// A text, and the bytes that come back.
-fn with_bytes(text: &str, back: &[u8], alloc: Global) -> Result<String, Flaw> {
-    let back = hexadecimal(back, alloc)?;
-    Ok(format!(in alloc; "{text} / {back}")?)
-}
-
-/// `2x1 1001,5005,1000,3002`: the size of a raster of grays and alphas of sixteen bits, and the
-/// words that it is made of. The answer is the size and the channels of each pixel, or why there
-/// is no raster, and the words that come back.
-pub(crate) fn of_words(words: &[&str], alloc: Global) -> Result<String, Flaw> {
+/// `2x1 1001,5005,1000,3002`: the size of a raster of sixteen bits, and the words that it is made
+/// of. The answer is the size and the channels of each pixel, or why there is no raster, and the
+/// words that come back.
+pub(crate) fn of_words<P: Words>(words: &[&str], alloc: Global) -> Result<String, Flaw> {
     let [word, buffer] = words else {
         return Err(Flaw::Count);
     };
-    words_of_model::<2, Gray>(size(word)?, sixteens(buffer, alloc)?, alloc)
-}
-
-/// The answer of [`of_words`] for a format of `N` channels.
-fn words_of_model<const N: usize, M: ColorModel>(
-    sides: (u32, u32),
-    buffer: Vec<u16>,
-    alloc: Global,
-) -> Result<String, Flaw>
-    requires { N ≤ 4 }
-{
-    let (width, height) = sides;
-    match Raster::<Pix<N, Ch16, M, Straight, Linear>>::with_u16_buffer(
-        alloc, width, height, buffer,
-    ) {
-        Err((fault, back)) => {
-            let back = sixteens_text(&back, alloc)?;
-            Ok(format!(in alloc; "{fault} / {back}")?)
-        }
+    let (made, back) = match P::of_words(size(word)?, sixteens(buffer, alloc)?, alloc) {
         Ok(raster) => {
-            let (width, height) = (raster.width(), raster.height());
-            let mut made = format!(in alloc; "{width}x{height}")?;
+            let mut made = format!(in alloc; "{}x{}", raster.width(), raster.height())?;
             for pixel in raster.pixels() {
                 made.push(' ')?;
                 for channel in pixel.channels() {
                     write!(made, "{:04x}", channel.to_u32())?;
                 }
             }
-            let back = raster.into_u16_vec(alloc)?;
-            let back = sixteens_text(&back, alloc)?;
-            Ok(format!(in alloc; "{made} / {back}")?)
+            (made, P::into_words(raster, alloc)?)
         }
-    }
+        Err((fault, back)) => (format!(in alloc; "{fault}")?, back),
+    };
+    let back = sixteens_text(&back, alloc)?;
+    Ok(format!(in alloc; "{made} / {back}")?)
 }
 
 /// The words of sixteen bits that four hexadecimal digits each spell.
@@ -131,7 +114,7 @@ fn sixteens(word: &str, alloc: Global) -> Result<Vec<u16>, Flaw> {
     let mut all = Vec::new(alloc);
     for pair in bytes(word, alloc)?.chunks(2) {
         match pair {
-            [high, low] => all.push(u16::from_be_bytes([*high, *low]))?,
+            [high, low] => all.push(256 * u16::from(*high) + u16::from(*low))?,
             _ => return Err(Flaw::Number),
         }
     }
@@ -150,30 +133,17 @@ fn sixteens_text(all: &[u16], alloc: Global) -> Result<String, Flaw> {
     Ok(text)
 }
 
-/// `3x1 01,02,03`: the size of a raster of grays and the pixels that it is made of. The answer is
-/// the size and the pixels of the raster, or why there is none, and the pixels that come back.
-pub(crate) fn of_pixels(words: &[&str], alloc: Global) -> Result<String, Flaw> {
+/// `3x1 01,02,03`: the size of a raster and the pixels that it is made of. The answer is the size
+/// and the pixels of the raster, or why there is none, and the pixels that come back.
+pub(crate) fn of_pixels<P: Pixel>(words: &[&str], alloc: Global) -> Result<String, Flaw> {
     let [word, pixels] = words else {
         return Err(Flaw::Count);
     };
-    made_of::<Gray8>(size(word)?, pixels, alloc)
-}
-
-/// The answer of [`of_pixels`] for a format.
-fn made_of<P: Pixel>(
-    (width, height): (u32, u32),
-    pixels: &str,
-    alloc: Global,
-) -> Result<String, Flaw> {
-    match Raster::with_pixels(width, height, all::<P>(pixels, alloc)?) {
-        Err((fault, back)) => {
-            let back = text(&back, alloc)?;
-            Ok(format!(in alloc; "{fault} / {back}")?)
-        }
-        Ok(raster) => {
-            let made = picture(&raster, alloc)?;
-            let back = text(&raster.into_pixels(), alloc)?;
-            Ok(format!(in alloc; "{made} / {back}")?)
-        }
-    }
+    let (width, height) = size(word)?;
+    let (made, back) = match Raster::with_pixels(width, height, all::<P>(pixels, alloc)?) {
+        Ok(raster) => (picture(&raster, alloc)?, raster.into_pixels()),
+        Err((fault, back)) => (format!(in alloc; "{fault}")?, back),
+    };
+    let back = text(&back, alloc)?;
+    Ok(format!(in alloc; "{made} / {back}")?)
 }

@@ -2,12 +2,11 @@
 ghost use Rattle.std.specs.Prelude.{◌≡◌, ◌≤◌, ◌+◌, ⊤};
 
 use crate::flaw::Flaw;
-use crate::formats::{Format, Model};
 use crate::pixels::{channel, pixel, word_of};
 use crate::slices;
 use crate::words::operator;
 use pix::ColorModel;
-use pix::chan::{Ch8, Ch16, Linear, Premultiplied};
+use pix::chan::{Ch8, Ch16, Channel, Linear, Premultiplied};
 use pix::el::{Pix, Pixel};
 use pix::gray::Gray;
 use pix::hsl::Hsl;
@@ -73,32 +72,27 @@ pub(crate) fn composited(words: &[&str], alloc: Global) -> Result<String, Flaw> 
     let [format, rest @ ..] = words else {
         return Err(Flaw::Count);
     };
-    let format = Format::of(format)?;
-    match format.model {
-        Model::Gray if format.is_wide => sixteen::<2, Gray>(rest, alloc),
-        Model::Rgb if format.is_wide => sixteen::<4, Rgb>(rest, alloc),
-        Model::Gray => eight::<2, Gray>(rest, alloc),
-        Model::Rgb => eight::<4, Rgb>(rest, alloc),
-        Model::Hsv => eight::<4, Hsv>(rest, alloc),
-        Model::Hsl => eight::<4, Hsl>(rest, alloc),
-        Model::Hwb => eight::<4, Hwb>(rest, alloc),
-        Model::Matte => eight::<1, Matte>(rest, alloc),
+    match *format {
+        "Graya16p" => of_format::<2, Ch16, Gray>(rest, alloc),
+        "Rgba16p" => of_format::<4, Ch16, Rgb>(rest, alloc),
+        "Graya8p" => of_format::<2, Ch8, Gray>(rest, alloc),
+        "Rgba8p" => of_format::<4, Ch8, Rgb>(rest, alloc),
+        "Hsva8p" => of_format::<4, Ch8, Hsv>(rest, alloc),
+        "Hsla8p" => of_format::<4, Ch8, Hsl>(rest, alloc),
+        "Hwba8p" => of_format::<4, Ch8, Hwb>(rest, alloc),
+        "Matte8" => of_format::<1, Ch8, Matte>(rest, alloc),
         _ => Err(Flaw::Name),
     }
 }
 
-/// Composites premultiplied linear pixels of eight bits, which have `N` channels.
-fn eight<const N: usize, M: ColorModel>(words: &[&str], alloc: Global) -> Result<String, Flaw>
+/// Composites premultiplied linear pixels of a model, which have `N` channels.
+fn of_format<const N: usize, C, M>(words: &[&str], alloc: Global) -> Result<String, Flaw>
+where
+    C: Channel,
+    M: ColorModel,
     requires { N ≤ 4 }
 {
-    by_format::<Pix<N, Ch8, M, Premultiplied, Linear>>(words, alloc)
-}
-
-/// Composites premultiplied linear pixels of sixteen bits, which have `N` channels.
-fn sixteen<const N: usize, M: ColorModel>(words: &[&str], alloc: Global) -> Result<String, Flaw>
-    requires { N ≤ 4 }
-{
-    by_format::<Pix<N, Ch16, M, Premultiplied, Linear>>(words, alloc)
+    by_format::<Pix<N, C, M, Premultiplied, Linear>>(words, alloc)
 }
 
 /// The pixels of a word.

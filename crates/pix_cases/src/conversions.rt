@@ -5,7 +5,7 @@
 ghost use Rattle.std.specs.Prelude.{◌≤◌, ◌+◌};
 
 use crate::flaw::Flaw;
-use crate::formats::{Format, Task};
+use crate::formats;
 use crate::pixels::{pixel, word_of};
 use pix::ColorModel;
 use pix::chan::{Alpha, Ch8, Gamma, Linear, Premultiplied, Srgb, Straight};
@@ -23,10 +23,10 @@ pub(crate) fn converted(words: &[&str], alloc: Global) -> Result<String, Flaw> {
         return Err(Flaw::Count);
     };
     match from {
-        "Rgba8" => Format::of(to)?.answer(Task::OfRgba8(word), alloc),
-        "Rgb8" => Format::of(to)?.answer(Task::OfRgb8(word), alloc),
-        _ if to == straight(from) => Format::of(from)?.answer(Task::MakeStraight(word), alloc),
-        _ => Format::of(from)?.answer(Task::Into(word, to), alloc),
+        "Rgba8" => formats::answer(to, "of_rgba8", &[word], alloc),
+        "Rgb8" => formats::answer(to, "of_rgb8", &[word], alloc),
+        _ if to == straight(from) => formats::answer(from, "straight", &[word], alloc),
+        _ => formats::answer(from, "convert", &[word, to], alloc),
     }
 }
 

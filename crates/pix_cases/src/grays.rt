@@ -1,16 +1,12 @@
 //! Rows, single pixels and copies of rasters of eight bits.
-ghost use Rattle.std.specs.Prelude.{◌≤◌};
-
+use crate::buffers::Bytes;
 use crate::flaw::Flaw;
 use crate::images::{all, image, picture, pixel, pixel_at, put, text};
 use crate::regions::{coordinate, region};
 use crate::words::{hexadecimal, number};
-use pix::chan::{Alpha, Ch8, Channel, Gamma, Linear, Premultiplied, Srgb, Straight};
-use pix::el::{Pix, Pixel};
-use pix::gray::Gray;
-use pix::matte::Matte;
-use pix::rgb::Rgb;
-use pix::{ColorModel, Raster, Region};
+use pix::chan::Channel;
+use pix::el::Pixel;
+use pix::{Raster, Region};
 use std::alloc::Global;
 use std::mem;
 
@@ -35,36 +31,12 @@ use std::mem;
 /// - `number REGION`: writes 101, 102 and so on to the points of a region, row by row, and says how
 ///   many rows it has
 /// - `clone`: copies the raster to the source, and says which pixels and bytes come out of that
-///
-/// The class names the format.
-pub(crate) fn walked(class: &str, words: &[&str], alloc: Global) -> Result<String, Flaw> {
+pub(crate) fn walked<P: Bytes>(words: &[&str], alloc: Global) -> Result<String, Flaw> {
     let [size, pixels, words @ ..] = words else {
         return Err(Flaw::Count);
     };
-    match class {
-        "gray" => of_model::<1, Gray, Straight, Linear>(size, pixels, words, alloc),
-        "sgray" => of_model::<1, Gray, Straight, Srgb>(size, pixels, words, alloc),
-        "srgb" => of_model::<3, Rgb, Straight, Srgb>(size, pixels, words, alloc),
-        "matte" => of_model::<1, Matte, Premultiplied, Linear>(size, pixels, words, alloc),
-        _ => Err(Flaw::Class),
-    }
-}
-
-/// The answer of [`walked`] for a format of `N` channels.
-fn of_model<const N: usize, M, A, G>(
-    size: &str,
-    pixels: &str,
-    words: &[&str],
-    alloc: Global,
-) -> Result<String, Flaw>
-where
-    M: ColorModel,
-    A: Alpha,
-    G: Gamma<Ch8>,
-    requires { N ≤ 4 }
-{
-    let mut raster: Raster<Pix<N, Ch8, M, A, G>> = image(size, pixels, alloc)?;
-    let mut source = image("0x0", "-", alloc)?;
+    let mut raster = image::<P>(size, pixels, alloc)?;
+    let mut source = image::<P>("0x0", "-", alloc)?;
     let mut answer = String::new(alloc);
     for part in words.split(|word| *word == ";") {
         if change(&mut raster, &mut source, part, alloc)? {
@@ -107,18 +79,12 @@ fn change<P: Pixel>(
 }
 
 /// The answer to a question.
-fn told<const N: usize, M, A, G>(
-    raster: &mut Raster<Pix<N, Ch8, M, A, G>>,
-    source: &mut Raster<Pix<N, Ch8, M, A, G>>,
+fn told<P: Bytes>(
+    raster: &mut Raster<P>,
+    source: &mut Raster<P>,
     words: &[&str],
     alloc: Global,
-) -> Result<String, Flaw>
-where
-    M: ColorModel,
-    A: Alpha,
-    G: Gamma<Ch8>,
-    requires { N ≤ 4 }
-{
+) -> Result<String, Flaw> {
     match words {
         ["pixels"] => picture(raster, alloc),
         ["at", x, y] => {
@@ -127,12 +93,10 @@ where
             text(&Vec::from_elem(alloc, point, 1)?, alloc)
         }
         ["rows", reg] => rows(raster, region(reg, alloc)?, alloc),
-        ["row", y, reg] => {
-            match raster.row_mut(coordinate(number(y)?)?, region(reg, alloc)?) {
-                Some(row) => text(row, alloc),
-                None => Ok(String::from_str(alloc, "none")?),
-            }
-        }
+        ["row", y, reg] => match raster.row_mut(coordinate(number(y)?)?, region(reg, alloc)?) {
+            Some(row) => text(row, alloc),
+            None => Ok(String::from_str(alloc, "none")?),
+        },
         ["taken", reg] => rows_taken(raster, region(reg, alloc)?, alloc),
         ["number", reg] => {
             let count = number_points(raster, region(reg, alloc)?);
@@ -140,31 +104,14 @@ where
         }
         ["clone"] => {
             *source = raster.try_clone(alloc)?;
-            copies(raster, alloc)
+            let pixels = text(&raster.try_clone(alloc)?.into_pixels(), alloc)?;
+            let (copied, bytes) = P::both(raster.try_clone(alloc)?, alloc)?;
+            let copied = hexadecimal(&copied, alloc)?;
+            let bytes = hexadecimal(&bytes, alloc)?;
+            Ok(format!(in alloc; "{pixels} {copied} {bytes}")?)
         }
         _ => Err(Flaw::Name),
     }
-}
-
-/// The pixels and the bytes that come out of copies of a raster.
-fn copies<const N: usize, M, A, G>(
-    raster: &Raster<Pix<N, Ch8, M, A, G>>,
-    alloc: Global,
-) -> Result<String, Flaw>
-where
-    M: ColorModel,
-    A: Alpha,
-    G: Gamma<Ch8>,
-    requires { N ≤ 4 }
-{
-    let copied = raster.to_u8_vec(alloc)?;
-    let copied = hexadecimal(&copied, alloc)?;
-    let copy = raster.try_clone(alloc)?;
-    let bytes = copy.into_u8_vec(alloc)?;
-    let bytes = hexadecimal(&bytes, alloc)?;
-    let copy = raster.try_clone(alloc)?;
-    let pixels = text(&copy.into_pixels(), alloc)?;
-    Ok(format!(in alloc; "{pixels} {copied} {bytes}")?)
 }
 
 /// How many rows a region has, and the pixels of each; after the last row there is none, however

@@ -4,18 +4,12 @@ use crate::regions::coordinate;
 use crate::words::{bytes, number, small};
 use pix::chan::Channel;
 use pix::el::Pixel;
-use pix::rgb::Rgba8p;
 use pix::{Raster, RasterFault};
 use std::alloc::Global;
 
 /// `4x3`, or `4x3 01020304`: a size, and the color of all pixels. The answer is the size and the
 /// pixels of the raster, or why no raster has that size.
-pub(crate) fn make(words: &[&str], alloc: Global) -> Result<String, Flaw> {
-    made::<Rgba8p>(words, alloc)
-}
-
-/// The answer of [`make`] for a format.
-fn made<P: Pixel>(words: &[&str], alloc: Global) -> Result<String, Flaw> {
+pub(crate) fn make<P: Pixel>(words: &[&str], alloc: Global) -> Result<String, Flaw> {
     let made: Result<Raster<P>, RasterFault> = match words {
         [word] => {
             let (width, height) = size(word)?;
@@ -45,9 +39,13 @@ pub(crate) fn image<P: Pixel>(word: &str, pixels: &str, alloc: Global) -> Result
     let (width, height) = size(word)?;
     if let Some(color) = pixels.strip_prefix('*') {
         let color = pixel(color, alloc)?;
-        return Raster::with_color(alloc, width, height, color).map_err(|_| Flaw::Refused);
+        return Raster::with_color(alloc, width, height, color)
+            .ok()
+            .ok_or(Flaw::Refused);
     }
-    let mut raster = Raster::with_clear(alloc, width, height).map_err(|_| Flaw::Refused)?;
+    let mut raster = Raster::with_clear(alloc, width, height)
+        .ok()
+        .ok_or(Flaw::Refused)?;
     if pixels != "-" {
         let pixels = all::<P>(pixels, alloc)?;
         if pixels.len() != raster.pixels().len() {

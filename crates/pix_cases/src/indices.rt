@@ -47,6 +47,6 @@ fn depth(word: &str) -> Result<IndexDepth, Flaw> {
 
 /// The length of a word, at most 255.
 fn length(word: &str) -> Result<usize, Flaw> {
-    let length = word.parse::<u8>().map_err(|_| Flaw::Number)?;
+    let length = word.parse::<u8>().ok().ok_or(Flaw::Number)?;
     Ok(usize::from(length))
 }

@@ -5,7 +5,6 @@
 //! The exit status is then 1. `cases.rt` says what a line is, and `classes.rt` lists the classes.
 #![tactic(auto)]
 
-mod aliases;
 mod buffers;
 mod cases;
 mod channels;
@@ -33,7 +32,6 @@ use std::process::ExitCode;
 use std::{env, fs, io};
 
 fn main(rt: HostRuntime) -> ExitCode {
-    aliases::compare();
     match run_files(&rt) {
         Ok(tally) if tally.wrong == 0 => ExitCode::SUCCESS,
         Ok(_) => ExitCode::FAILURE,

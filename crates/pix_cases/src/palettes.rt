@@ -77,7 +77,7 @@ fn colors_text(colors: &[SRgb8], alloc: Global) -> Result<String, Flaw> {
 
 /// The index of a word.
 fn index(word: &str) -> Result<usize, Flaw> {
-    word.parse::<usize>().map_err(|_| Flaw::Number)
+    word.parse::<usize>().ok().ok_or(Flaw::Number)
 }
 
 /// A color of these channels.

@@ -6,7 +6,7 @@ use std::alloc::Global;
 
 /// The channel of a number, which must be one of its width.
 pub(crate) fn channel<C: Channel>(word: &str) -> Result<C, Flaw> {
-    let number = word.parse::<u16>().map_err(|_| Flaw::Number)?;
+    let number = word.parse::<u16>().ok().ok_or(Flaw::Number)?;
     let channel = C::from_ratio(i64::from(number), 1);
     if channel.to_u32() == u32::from(number) {
         Ok(channel)

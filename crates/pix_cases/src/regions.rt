@@ -4,7 +4,6 @@ use crate::images::image;
 use crate::words::numbers;
 use pix::Region;
 use pix::el::Pixel;
-use pix::gray::Gray8;
 use std::alloc::Global;
 
 /// `0,0,4,4`: a region as by [`place`]. The answer is `none`, or its left, top, width, height,
@@ -43,16 +42,11 @@ pub(crate) fn meet(words: &[&str], alloc: Global) -> Result<String, Flaw> {
 
 /// `2x1 1,0`: the size of a raster and a region. The answer is the region of the raster, and the
 /// part of the other in it.
-pub(crate) fn clip(words: &[&str], alloc: Global) -> Result<String, Flaw> {
+pub(crate) fn clip<P: Pixel>(words: &[&str], alloc: Global) -> Result<String, Flaw> {
     let [size, word] = words else {
         return Err(Flaw::Count);
     };
-    clipped::<Gray8>(size, region(word, alloc)?, alloc)
-}
-
-/// The answer of [`clip`] for a format.
-fn clipped<P: Pixel>(size: &str, part: Region, alloc: Global) -> Result<String, Flaw> {
-    let raster = image::<P>(size, "-", alloc)?;
+    let (raster, part) = (image::<P>(size, "-", alloc)?, region(word, alloc)?);
     let all = four(raster.region(), alloc)?;
     let part = four(raster.intersection(part), alloc)?;
     Ok(format!(in alloc; "{all} {part}")?)
@@ -84,12 +78,12 @@ fn place(word: &str, alloc: Global) -> Result<Option<Region>, Flaw> {
 
 /// The number as a coordinate.
 pub(crate) fn coordinate(number: i64) -> Result<i32, Flaw> {
-    i32::try_from(number).map_err(|_| Flaw::Number)
+    i32::try_from(number).ok().ok_or(Flaw::Number)
 }
 
 /// The number as a side.
 fn side(number: i64) -> Result<u32, Flaw> {
-    u32::try_from(number).map_err(|_| Flaw::Number)
+    u32::try_from(number).ok().ok_or(Flaw::Number)
 }
 
 /// The left, top, width and height of a region, separated by commas.

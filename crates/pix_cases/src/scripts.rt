@@ -1,5 +1,6 @@
 //! Whole scripts, with the text of their image or their fault.
 use crate::flaw::Flaw;
+use crate::words::hex_digit;
 use pix_script::paint_text;
 use std::alloc::Global;
 
@@ -54,18 +55,11 @@ fn escaped<'a>(escape: &'a [u8], script: &mut Vec<u8>) -> Result<&'a [u8], Flaw>
         [b'n', rest @ ..] => (b'\n', rest),
         [b'r', rest @ ..] => (b'\r', rest),
         [b't', rest @ ..] => (b'\t', rest),
-        [b'x', high, low, rest @ ..] => (byte_of(*high, *low)?, rest),
+        [b'x', high, low, rest @ ..] => (16 * hex_digit(*high)? + hex_digit(*low)?, rest),
         _ => return Err(Flaw::Line),
     };
     script.push(byte)?;
     Ok(rest)
-}
-
-/// The byte of two hexadecimal digits.
-fn byte_of(high: u8, low: u8) -> Result<u8, Flaw> {
-    let high = char::from(high).to_digit(16).ok_or(Flaw::Line)?;
-    let low = char::from(low).to_digit(16).ok_or(Flaw::Line)?;
-    u8::try_from(high.wrapping_mul(16).wrapping_add(low)).map_err(|_| Flaw::Line)
 }
 
 /// The text of an image in quotes, where `\n` ends each row.

@@ -25,17 +25,21 @@ where
     for len in lengths.split(',') {
         for src_len in lengths.split(',') {
             let src = series::<P>(small(src_len)?, 2, alloc)?;
-            let want = made(op, How::Pairs(copied(&src, alloc)?), small(len)?, alloc)?;
+            let pairs = How::Pairs(Vec::from_slice(alloc, &src)?);
+            let want = made(op, pairs, small(len)?, alloc)?;
             let dst = made(op, How::Slice(src), small(len)?, alloc)?;
-            if !are_same(&dst, &want) {
+            if dst.as_slice() != want.as_slice() {
                 return Ok(format!(in alloc; "{len} {src_len}")?);
             }
             of_slices = summed(of_slices, &dst);
         }
-        let clr = drawn_pixel::<P>(4).0;
+        let clr = series::<P>(1, 4, alloc)?
+            .first()
+            .copied()
+            .unwrap_or_default();
         let want = made(op, How::One(clr), small(len)?, alloc)?;
         let dst = made(op, How::Color(clr), small(len)?, alloc)?;
-        if !are_same(&dst, &want) {
+        if dst.as_slice() != want.as_slice() {
             return Ok(format!(in alloc; "{len} color")?);
         }
         of_colors = summed(of_colors, &dst);
@@ -54,16 +58,6 @@ where
     Ok(dst)
 }
 
-/// A copy of pixels.
-fn copied<P: Pixel>(pixels: &[P], alloc: Global) -> Result<Vec<P>, AllocError> {
-    Vec::from_slice(alloc, pixels)
-}
-
-/// Whether both have the same pixels.
-fn are_same<P: Pixel>(one: &[P], other: &[P]) -> bool {
-    one.len() == other.len() && one.iter().zip(other.iter()).all(|(a, b)| *a == *b)
-}
-
 /// A sum that each channel of the pixels counts in, by its place.
 fn summed<P: Pixel>(before: u32, pixels: &[P]) -> u32 {
     let mut sum = before;
@@ -75,34 +69,21 @@ fn summed<P: Pixel>(before: u32, pixels: &[P]) -> u32 {
     sum
 }
 
-/// Pixels of a series of numbers that look random.
+/// Pixels of a series of numbers that look random. One channel of four is 0 or the maximum.
 fn series<P: Pixel>(len: u32, seed: u32, alloc: Global) -> Result<Vec<P>, AllocError> {
     let mut all = Vec::new(alloc);
     let mut state = seed;
     for _ in 0..len {
-        let (pixel, next) = drawn_pixel::<P>(state);
+        let mut pixel = P::default();
+        for channel in pixel.channels_mut() {
+            state = state.wrapping_mul(1664525).wrapping_add(1013904223);
+            *channel = match state >> 29 {
+                0 => P::Chan::MIN,
+                1 => P::Chan::MAX,
+                _ => P::Chan::from_16_bit((state / 256 % 65536) as u16),
+            };
+        }
         all.push(pixel)?;
-        state = next;
     }
     Ok(all)
-}
-
-/// The pixel that comes after a number of the series, and the number after it.
-fn drawn_pixel<P: Pixel>(before: u32) -> (P, u32) {
-    let mut state = before;
-    let mut pixel = P::default();
-    for channel in pixel.channels_mut() {
-        state = state.wrapping_mul(1664525).wrapping_add(1013904223);
-        *channel = drawn::<P::Chan>(state);
-    }
-    (pixel, state)
-}
-
-/// The channel of a number of the series. One of four is 0 or the maximum.
-fn drawn<C: Channel>(state: u32) -> C {
-    match state >> 29 {
-        0 => C::MIN,
-        1 => C::MAX,
-        _ => C::from_16_bit((state / 256 % 65536) as u16),
-    }
 }

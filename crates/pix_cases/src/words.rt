@@ -1,19 +1,18 @@
-//! The words of a case as numbers, bytes, regions and operators.
+//! The words of a case as numbers, bytes and operators.
 ghost use Rattle.std.specs.Prelude.{◌<◌, IfOk};
 
 use crate::flaw::Flaw;
-use pix::Region;
 use pix::ops::Op;
 use std::alloc::Global;
 
 /// The number of a word of decimal digits, which a minus may begin.
 pub(crate) fn number(word: &str) -> Result<i64, Flaw> {
-    word.parse::<i64>().map_err(|_| Flaw::Number)
+    word.parse::<i64>().ok().ok_or(Flaw::Number)
 }
 
 /// The number of a word, where it is one of 32 bits and not below 0.
 pub(crate) fn small(word: &str) -> Result<u32, Flaw> {
-    word.parse::<u32>().map_err(|_| Flaw::Number)
+    word.parse::<u32>().ok().ok_or(Flaw::Number)
 }
 
 /// The numbers of a word in which commas part them.
@@ -41,7 +40,7 @@ pub(crate) fn bytes(word: &str, alloc: Global) -> Result<Vec<u8>, Flaw> {
 }
 
 /// The value of a hexadecimal digit.
-fn hex_digit(letter: u8) -> Result<u8, Flaw>
+pub(crate) fn hex_digit(letter: u8) -> Result<u8, Flaw>
     ensures { IfOk result (λ digit. digit < 16) }
 {
     match letter {
@@ -62,28 +61,6 @@ pub(crate) fn hexadecimal(bytes: &[u8], alloc: Global) -> Result<String, Flaw> {
         text.push('-')?;
     }
     Ok(text)
-}
-
-/// The region of a word: `all`, or its left and top coordinate, width and height, separated by
-/// commas.
-pub(crate) fn region(word: &str, alloc: Global) -> Result<Region, Flaw> {
-    if word == "all" {
-        return Ok(Region::from(()));
-    }
-    let &[x, y, width, height] = numbers(word, alloc)?.as_slice() else {
-        return Err(Flaw::Count);
-    };
-    match (
-        i32::try_from(x),
-        i32::try_from(y),
-        u32::try_from(width),
-        u32::try_from(height),
-    ) {
-        (Ok(x), Ok(y), Ok(width), Ok(height)) => {
-            Region::try_new(x, y, width, height).ok_or(Flaw::Number)
-        }
-        _ => Err(Flaw::Number),
-    }
 }
 
 /// The operator of a name.
