@@ -1,15 +1,15 @@
 //! Pictures in another format: what viewers, readers and writers of files do.
 ghost use Rattle.std.specs.Prelude.{◌≤◌, ◌+◌};
 
-use crate::digest::Digest;
-use crate::pictures::{self, Shade, Veil};
+use crate::digest::{Bytes, Digest};
+use crate::pictures::{self, Ink, Shade, Veil};
 use crate::random::Random;
 use crate::size::Size;
 use pix::bgr::Bgr;
-use pix::chan::{Alpha, Ch8, Ch16, Gamma, Linear, Premultiplied, Srgb, Straight};
+use pix::chan::{Ch8, Ch16, Gamma, Linear, Premultiplied, Straight};
 use pix::cmy::Cmy;
 use pix::el::{Pix, Pixel};
-use pix::gray::Gray;
+use pix::gray::Gray8;
 use pix::hsl::Hsl;
 use pix::hsv::Hsv;
 use pix::hwb::Hwb;
@@ -20,6 +20,9 @@ use std::alloc::Global;
 
 /// A pixel of three linear colors of 8 bits.
 type Plain<M> = Pix<3, Ch8, M, Straight, Linear>;
+
+/// The same with an alpha.
+type Clear<M> = Pix<4, Ch8, M, Straight, Linear>;
 
 /// A pixel of three linear colors of 16 bits.
 type Fine<M> = Pix<3, Ch16, M, Straight, Linear>;
@@ -37,11 +40,11 @@ pub(crate) fn run<M: ColorModel>(
     requires four { 4 ≤ M.ALPHA + 1 }
 {
     for _ in 0..3 {
-        let photo = pictures::large_photo::<M>(alloc, size.of(1920), size.of(1080), random)?;
+        let photo = pictures::large_photo::<Shade<M>>(alloc, size.of(1920), size.of(1080), random)?;
         picture(alloc, &photo, random, digest)?;
     }
     for _ in 0..size.of(32) {
-        let photo = pictures::photo::<M>(alloc, 200, 150, random)?;
+        let photo = pictures::photo::<Shade<M>>(alloc, 200, 150, random)?;
         picture(alloc, &photo, random, digest)?;
     }
     Some(())
@@ -59,54 +62,43 @@ fn picture<M: ColorModel>(
     requires three { 3 ≤ M.ALPHA + 1 }
     requires four { 4 ≤ M.ALPHA + 1 }
 {
-    let linear = eight::<3, M, Straight, Linear, _>(alloc, photo, digest)?;
+    let linear = eight::<_, Plain<M>>(alloc, photo, digest)?;
     models(alloc, &linear, digest)?;
-    eight::<1, Gray, Straight, Linear, _>(alloc, &linear, digest)?;
-    eight::<3, M, Straight, Srgb, _>(alloc, &linear, digest)?;
+    eight::<_, Gray8>(alloc, &linear, digest)?;
+    eight::<_, Shade<M>>(alloc, &linear, digest)?;
     words(alloc, &linear, digest)?;
     let shade = pictures::with_alpha(alloc, photo, false, random)?;
     alphas(alloc, &shade, digest)
 }
 
-/// Converts a picture to the format of eight bits of these parts, and adds its channels.
+/// Converts a picture to a format of eight bits, and adds its channels.
 ///
 /// Condition: the format has no more channels than its model.
-fn eight<const N: usize, M, A, G, S>(
-    alloc: Global,
-    src: &Raster<S>,
-    digest: &mut Digest,
-) -> Option<Raster<Pix<N, Ch8, M, A, G>>>
+fn eight<S, D>(alloc: Global, src: &Raster<S>, digest: &mut Digest) -> Option<Raster<D>>
 where
-    M: ColorModel,
-    A: Alpha,
-    G: Gamma<Ch8>,
     S: Pixel,
-    Ch8: From<S::Chan>,
-    S::Gamma: Gamma<Ch8>,
-    requires few { N ≤ M.ALPHA + 1 }
+    D: Bytes,
+    D::Chan: From<S::Chan>,
+    S::Gamma: Gamma<D::Chan>,
+    requires few { D.layout.count ≤ D.layout.alpha + 1 }
 {
-    let made = Raster::with_raster(alloc, src).ok()?;
+    let made = Raster::<D>::with_raster(alloc, src).ok()?;
     digest.add_raster(alloc, &made)?;
     Some(made)
 }
 
-/// Converts a picture to the linear format of sixteen bits of these parts, and adds its channels.
+/// Converts a picture to a format of sixteen bits, and adds its channels.
 ///
 /// Condition: the format has no more channels than its model.
-fn sixteen<const N: usize, M, A, S>(
-    alloc: Global,
-    src: &Raster<S>,
-    digest: &mut Digest,
-) -> Option<Raster<Pix<N, Ch16, M, A, Linear>>>
+fn sixteen<S, D>(alloc: Global, src: &Raster<S>, digest: &mut Digest) -> Option<Raster<D>>
 where
-    M: ColorModel,
-    A: Alpha,
     S: Pixel,
+    D: Pixel<Chan = Ch16>,
     Ch16: From<S::Chan>,
     S::Gamma: Gamma<Ch16>,
-    requires few { N ≤ M.ALPHA + 1 }
+    requires few { D.layout.count ≤ D.layout.alpha + 1 }
 {
-    let made = Raster::with_raster(alloc, src).ok()?;
+    let made = Raster::<D>::with_raster(alloc, src).ok()?;
     digest.add_wide_raster(&made);
     Some(made)
 }
@@ -140,8 +132,8 @@ fn through<T: ColorModel, M: ColorModel>(
     requires other { 3 ≤ T.ALPHA + 1 }
     requires three { 3 ≤ M.ALPHA + 1 }
 {
-    let made = eight::<3, T, Straight, Linear, _>(alloc, linear, digest)?;
-    eight::<3, M, Straight, Linear, _>(alloc, &made, digest)?;
+    let made = eight::<_, Plain<T>>(alloc, linear, digest)?;
+    eight::<_, Plain<M>>(alloc, &made, digest)?;
     Some(())
 }
 
@@ -159,9 +151,9 @@ fn words<M: ColorModel>(alloc: Global, linear: &Raster<Plain<M>>, digest: &mut D
     };
     let fine = Raster::<Fine<M>>::with_u16_buffer(alloc, width, height, words).ok()?;
     digest.add_wide_raster(&fine);
-    let hues = sixteen::<3, Hsv, Straight, _>(alloc, &fine, digest)?;
-    eight::<3, M, Straight, Linear, _>(alloc, &hues, digest)?;
-    eight::<3, M, Straight, Linear, _>(alloc, &fine, digest)?;
+    let hues = sixteen::<_, Fine<Hsv>>(alloc, &fine, digest)?;
+    eight::<_, Plain<M>>(alloc, &hues, digest)?;
+    eight::<_, Plain<M>>(alloc, &fine, digest)?;
     Some(())
 }
 
@@ -174,13 +166,11 @@ fn alphas<M: ColorModel>(alloc: Global, shade: &Raster<Veil<M>>, digest: &mut Di
 {
     let (width, height) = (shade.width(), shade.height());
     let bytes = shade.to_u8_vec(alloc).ok()?;
-    let straight: Raster<Pix<4, Ch8, M, Straight, Linear>> = Raster::with_u8_buffer(
-        alloc, width, height, bytes,
-    ).ok()?;
-    let product = eight::<4, M, Premultiplied, Linear, _>(alloc, &straight, digest)?;
-    eight::<4, M, Straight, Linear, _>(alloc, &product, digest)?;
-    let fine = sixteen::<4, M, Premultiplied, _>(alloc, &straight, digest)?;
-    let quotient = sixteen::<4, M, Straight, _>(alloc, &fine, digest)?;
-    eight::<4, Bgr, Straight, Linear, _>(alloc, &quotient, digest)?;
+    let straight = Raster::<Clear<M>>::with_u8_buffer(alloc, width, height, bytes).ok()?;
+    let product = eight::<_, Ink<M>>(alloc, &straight, digest)?;
+    eight::<_, Clear<M>>(alloc, &product, digest)?;
+    let fine = sixteen::<_, Pix<4, Ch16, M, Premultiplied, Linear>>(alloc, &straight, digest)?;
+    let quotient = sixteen::<_, Pix<4, Ch16, M, Straight, Linear>>(alloc, &fine, digest)?;
+    eight::<_, Clear<Bgr>>(alloc, &quotient, digest)?;
     Some(())
 }

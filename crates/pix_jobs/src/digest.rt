@@ -6,6 +6,18 @@ use pix::gray::Gray8;
 use pix::{ColorModel, Raster};
 use std::alloc::Global;
 
+/// A format of eight bits, of whose rasters bytes are made.
+pub(crate) trait Bytes: Pixel {
+    /// Returns the channels of a raster, or `None` where there is no memory for them.
+    fn bytes_of(raster: &Raster<Self>, alloc: Global) -> Option<Vec<u8>>;
+}
+
+impl<const N: usize, M: ColorModel, A: Alpha, G: Gamma<Ch8>> Bytes for Pix<N, Ch8, M, A, G> {
+    fn bytes_of(raster: &Raster<Self>, alloc: Global) -> Option<Vec<u8>> {
+        raster.to_u8_vec(alloc).ok()
+    }
+}
+
 /// A number that all bytes which were added have changed, by the method of Fowler, Noll and Vo for
 /// words of 64 bits.
 #[derive(Drop)]
@@ -63,32 +75,15 @@ impl Digest {
     }
 
     /// Adds the channels of a raster.
-    pub(crate) fn add_raster<const N: usize, M, A, G>(
-        &mut self,
-        alloc: Global,
-        raster: &Raster<Pix<N, Ch8, M, A, G>>,
-    ) -> Option<()>
-    where
-        M: ColorModel,
-        A: Alpha,
-        G: Gamma<Ch8>,
-    {
-        let bytes = raster.to_u8_vec(alloc).ok()?;
+    pub(crate) fn add_raster<P: Bytes>(&mut self, alloc: Global, raster: &Raster<P>) -> Option<()> {
+        let bytes = P::bytes_of(raster, alloc)?;
         self.add_bytes(&bytes);
         Some(())
     }
 
     /// Adds the channels of a raster of 16 bits, all bits of each, pixel by pixel, and the number
     /// of pixels.
-    pub(crate) fn add_wide_raster<const N: usize, M, A, G>(
-        &mut self,
-        raster: &Raster<Pix<N, Ch16, M, A, G>>,
-    )
-    where
-        M: ColorModel,
-        A: Alpha,
-        G: Gamma<Ch16>,
-    {
+    pub(crate) fn add_wide_raster<P: Pixel<Chan = Ch16>>(&mut self, raster: &Raster<P>) {
         for pixel in raster.pixels() {
             let mut word = 0_u64;
             for channel in pixel.channels() {

@@ -2,19 +2,19 @@
 //! way, such images differ, and their digests do. Their errors tell which tables are better.
 
 use crate::digest::Digest;
-use crate::pictures::Shade;
+use crate::pictures::Opaque;
 use pix::chan::Ch8;
 use pix::el::Pixel;
 use pix::gray::Gray8;
 use pix::rgb::SRgb8;
-use pix::{ColorModel, ColorTable, Raster};
+use pix::{ColorTable, Raster};
 use std::alloc::Global;
 
 /// Adds the squared error of an image of indices in a table, compared with the picture that it was
 /// made of.
-pub(crate) fn add<M: ColorModel>(
+pub(crate) fn add<P: Opaque>(
     alloc: Global,
-    picture: &Raster<Shade<M>>,
+    picture: &Raster<P>,
     table: &ColorTable,
     image: &Raster<Gray8>,
     digest: &mut Digest,
@@ -25,13 +25,12 @@ pub(crate) fn add<M: ColorModel>(
 }
 
 /// Returns the sum of the squares of what the channels of two pictures differ by.
-fn squared<M: ColorModel>(picture: &Raster<Shade<M>>, shown: &Raster<SRgb8>) -> u64 {
+fn squared<P: Opaque>(picture: &Raster<P>, shown: &Raster<SRgb8>) -> u64 {
     let mut sum = 0_u64;
     for (wanted, found) in picture.pixels().iter().zip(shown.pixels()) {
-        let (wanted, found) = (wanted.channels(), found.channels());
-        sum = sum.wrapping_add(square(wanted[0], found[0]));
-        sum = sum.wrapping_add(square(wanted[1], found[1]));
-        sum = sum.wrapping_add(square(wanted[2], found[2]));
+        for (wanted, found) in wanted.channels().iter().zip(found.channels()) {
+            sum = sum.wrapping_add(square(*wanted, *found));
+        }
     }
     sum
 }

@@ -1,40 +1,36 @@
 //! Images of indices, and their tables of 256 colors: what encoders of PNG and GIF do.
 
 use crate::digest::Digest;
-use crate::pictures::{self, Shade};
+use crate::pictures::{self, Opaque};
 use crate::random::Random;
 use crate::size::Size;
 use crate::{calls, errors};
 use pix::gray::Gray8;
-use pix::{ColorModel, ColorTable, Raster};
+use pix::{ColorTable, Raster};
 use std::alloc::Global;
 
 /// Does the job.
-pub(crate) fn run<M: ColorModel>(
+pub(crate) fn run<P: Opaque>(
     alloc: Global,
     size: Size,
     random: &mut Random,
     digest: &mut Digest,
 ) -> Option<()> {
-    let photo = pictures::photo::<M>(alloc, size.of(2048), size.of(1536), random)?;
+    let photo = pictures::photo::<P>(alloc, size.of(2048), size.of(1536), random)?;
     encode(alloc, &photo, digest)?;
     for _ in 0..size.of(32) {
-        let photo = pictures::photo::<M>(alloc, 240, 200, random)?;
+        let photo = pictures::photo::<P>(alloc, 240, 200, random)?;
         encode(alloc, &photo, digest)?;
     }
-    let noise = pictures::noise::<M>(alloc, size.of(1024), size.of(512), random)?;
+    let noise = pictures::noise::<P>(alloc, size.of(1024), size.of(512), random)?;
     encode(alloc, &noise, digest)?;
-    let colors = pictures::colors::<M>(alloc, size.of(3000), random)?;
+    let colors = pictures::colors::<P>(alloc, size.of(3000), random)?;
     let drawing = pictures::drawing(alloc, size.of(1024), size.of(768), &colors, 12, random)?;
     encode(alloc, &drawing, digest)
 }
 
 /// Makes a table of a picture, and its indices in two ways.
-fn encode<M: ColorModel>(
-    alloc: Global,
-    picture: &Raster<Shade<M>>,
-    digest: &mut Digest,
-) -> Option<()> {
+fn encode<P: Opaque>(alloc: Global, picture: &Raster<P>, digest: &mut Digest) -> Option<()> {
     let table = calls::quantize(alloc, picture).ok()??;
     let nearest = table.map_indexed(alloc, picture).ok()??;
     add(alloc, picture, &table, &nearest, digest)?;
@@ -48,9 +44,9 @@ fn encode<M: ColorModel>(
 }
 
 /// Adds an image of indices in a table, or its squared error.
-fn add<M: ColorModel>(
+fn add<P: Opaque>(
     alloc: Global,
-    picture: &Raster<Shade<M>>,
+    picture: &Raster<P>,
     table: &ColorTable,
     image: &Raster<Gray8>,
     digest: &mut Digest,

@@ -2,7 +2,7 @@
 ghost use Rattle.std.specs.Prelude.{◌≡◌, ◌≤◌, ◌+◌};
 
 use crate::digest::Digest;
-use crate::pictures::{self, Shade, Veil};
+use crate::pictures::{self, Ink, Shade, Veil};
 use crate::random::Random;
 use crate::size::Size;
 use pix::chan::{Ch16, Linear, Premultiplied};
@@ -28,17 +28,17 @@ pub(crate) fn run<M: ColorModel>(
     requires four { 4 ≤ M.ALPHA + 1 }
     requires has_alpha { 4 ≡ M.ALPHA + 1 }
 {
-    let sprite = pictures::sprite::<M>(alloc, 256, 256, random)?;
+    let sprite = pictures::sprite::<Ink<M>>(alloc, 256, 256, random)?;
     let sprite = Raster::<Light<M>>::with_raster(alloc, &sprite).ok()?;
     for _ in 0..6 {
-        let photo = pictures::large_photo::<M>(alloc, size.of(3000), size.of(2000), random)?;
+        let photo = pictures::large_photo::<Shade<M>>(alloc, size.of(3000), size.of(2000), random)?;
         let mut light = photo.decode_srgb::<Light<M>>(alloc).ok()?;
         paint(&mut light, &sprite, random);
         let shown = light.encode_srgb::<Shade<M>>(alloc).ok()?;
         digest.add_raster(alloc, &shown)?;
     }
     for any in [false, true] {
-        let photo = pictures::large_photo::<M>(alloc, size.of(2000), size.of(1500), random)?;
+        let photo = pictures::large_photo::<Shade<M>>(alloc, size.of(2000), size.of(1500), random)?;
         let photo = pictures::with_alpha(alloc, &photo, any, random)?;
         let mut light = photo.decode_srgb::<Light<M>>(alloc).ok()?;
         paint(&mut light, &sprite, random);

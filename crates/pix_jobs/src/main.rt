@@ -25,7 +25,7 @@ mod sprites;
 mod tables;
 
 use digest::Digest;
-use pix::rgb::Rgb;
+use pix::rgb::{Rgb, SRgb8};
 use random::Random;
 use size::Size;
 use std::alloc::Global;
@@ -150,13 +150,13 @@ fn done(
     digest: &mut Digest,
 ) -> Option<()> {
     match name {
-        "indexed" => indexed::run::<Rgb>(alloc, size, random, digest),
-        "sheets" => sheets::run::<Rgb>(alloc, size, random, digest),
+        "indexed" => indexed::run::<SRgb8>(alloc, size, random, digest),
+        "sheets" => sheets::run::<SRgb8>(alloc, size, random, digest),
         "convert" => convert::run::<Rgb>(alloc, size, random, digest),
         "sprites" => sprites::run::<Rgb>(alloc, size, random, digest),
         "light" => light::run::<Rgb>(alloc, size, random, digest),
         "script" => script::run(alloc, size, random, digest),
-        "tables" => tables::run::<Rgb>(alloc, size, random, digest),
-        part => tables::run_part::<Rgb>(alloc, part, size, random, digest),
+        "tables" => tables::run::<SRgb8>(alloc, size, random, digest),
+        part => tables::run_part::<SRgb8>(alloc, part, size, random, digest),
     }
 }

@@ -1,7 +1,8 @@
 //! Pictures of real kinds: photographs, drawings, sprites and masks.
 //!
-//! A call at a concrete format costs the prover seconds. So the jobs are written for any color
-//! model, and begin at red, green and blue.
+//! A call at a concrete format costs the prover seconds, and so does each function that names a
+//! format by its parts. So the jobs are written for any format of colors, or for any color model,
+//! and begin at red, green and blue.
 ghost use Rattle.std.specs.Prelude.{◌<◌, ◌≤◌, ◌+◌};
 
 use crate::random::{Random, byte};
@@ -22,6 +23,42 @@ pub(crate) type Ink<M> = Pix<4, Ch8, M, Premultiplied, Linear>;
 
 /// A pixel of a mask.
 pub(crate) type Cover<M> = Pix<1, Ch8, M, Premultiplied, Linear>;
+
+/// A format of three colors of eight bits, as photographs have.
+pub(crate) trait Opaque: Pixel<Chan = Ch8> {
+    /// Returns the color of these channels.
+    fn of(red: u8, green: u8, blue: u8) -> Self;
+}
+
+impl<M: ColorModel> Opaque for Shade<M> {
+    fn of(red: u8, green: u8, blue: u8) -> Self {
+        Shade::<M>::new(red, green, blue)
+    }
+}
+
+/// A format of three colors and an alpha of eight bits, as sprites have.
+pub(crate) trait Inked: Pixel<Chan = Ch8> {
+    /// Returns the color of these channels.
+    fn of(red: u8, green: u8, blue: u8, alpha: u8) -> Self;
+}
+
+impl<M: ColorModel> Inked for Ink<M> {
+    fn of(red: u8, green: u8, blue: u8, alpha: u8) -> Self {
+        Ink::<M>::new(red, green, blue, alpha)
+    }
+}
+
+/// A format of one channel of eight bits, as masks have.
+pub(crate) trait Covering: Pixel<Chan = Ch8> {
+    /// Returns the value of this channel.
+    fn of(value: u8) -> Self;
+}
+
+impl<M: ColorModel> Covering for Cover<M> {
+    fn of(value: u8) -> Self {
+        Cover::<M>::new(value)
+    }
+}
 
 /// Shades that grow and fall in turn.
 #[derive(Clone, Copy)]
@@ -58,13 +95,13 @@ impl Wave {
 }
 
 /// Makes a photograph: smooth shades with noise and edges.
-pub(crate) fn photo<M: ColorModel>(
+pub(crate) fn photo<P: Opaque>(
     alloc: Global,
     width: u32,
     height: u32,
     random: &mut Random,
-) -> Option<Raster<Shade<M>>> {
-    let mut picture = Raster::<Shade<M>>::with_clear(alloc, width, height).ok()?;
+) -> Option<Raster<P>> {
+    let mut picture = Raster::<P>::with_clear(alloc, width, height).ok()?;
     let mut starts = [Wave::new(random), Wave::new(random), Wave::new(random)];
     for row in picture.rows_mut(Region::from(())) {
         for start in starts.iter_mut() {
@@ -78,7 +115,7 @@ pub(crate) fn photo<M: ColorModel>(
                 green.jump(bits >> 8);
                 blue.jump(bits >> 16);
             }
-            *pixel = Shade::<M>::new(
+            *pixel = P::of(
                 red.next(bits >> 16),
                 green.next(bits >> 24),
                 blue.next(bits >> 40),
@@ -89,14 +126,14 @@ pub(crate) fn photo<M: ColorModel>(
 }
 
 /// Makes a large photograph of the parts of a small one, in memory that is made once.
-pub(crate) fn large_photo<M: ColorModel>(
+pub(crate) fn large_photo<P: Opaque>(
     alloc: Global,
     width: u32,
     height: u32,
     random: &mut Random,
-) -> Option<Raster<Shade<M>>> {
-    let part = photo::<M>(alloc, 512, 256, random)?;
-    let mut picture = Raster::<Shade<M>>::with_clear(alloc, width, height).ok()?;
+) -> Option<Raster<P>> {
+    let part = photo::<P>(alloc, 512, 256, random)?;
+    let mut picture = Raster::<P>::with_clear(alloc, width, height).ok()?;
     let mut y = 0_i32;
     for _ in 0..height / 128 + 1 {
         let mut x = -256_i32;
@@ -111,13 +148,13 @@ pub(crate) fn large_photo<M: ColorModel>(
 }
 
 /// Makes a picture in which each pixel has a color by chance.
-pub(crate) fn noise<M: ColorModel>(
+pub(crate) fn noise<P: Opaque>(
     alloc: Global,
     width: u32,
     height: u32,
     random: &mut Random,
-) -> Option<Raster<Shade<M>>> {
-    let mut picture = Raster::<Shade<M>>::with_clear(alloc, width, height).ok()?;
+) -> Option<Raster<P>> {
+    let mut picture = Raster::<P>::with_clear(alloc, width, height).ok()?;
     for pixel in picture.pixels_mut().iter_mut() {
         *pixel = color(random);
     }
@@ -130,16 +167,13 @@ pub(crate) fn color_of(red: u8, green: u8, blue: u8) -> SRgb8 {
 }
 
 /// Returns a color by chance.
-pub(crate) fn color<M>(random: &mut Random) -> Shade<M> {
+pub(crate) fn color<P: Opaque>(random: &mut Random) -> P {
     let bits = random.bits();
-    Shade::<M>::new(byte(bits >> 8), byte(bits >> 16), byte(bits >> 24))
+    P::of(byte(bits >> 8), byte(bits >> 16), byte(bits >> 24))
 }
 
 /// Makes a list of colors by chance.
-pub(crate) fn colors<M>(alloc: Global, count: u32, random: &mut Random) -> Option<Vec<Shade<M>>>
-where
-    M: ColorModel,
-{
+pub(crate) fn colors<P: Opaque>(alloc: Global, count: u32, random: &mut Random) -> Option<Vec<P>> {
     let mut colors = Vec::new(alloc);
     for _ in 0..count {
         colors.push(color(random)).ok()?;
@@ -149,17 +183,17 @@ where
 
 /// Makes a drawing: runs of pixels of one of the colors, up to a length. Condition: there are
 /// colors, and runs.
-pub(crate) fn drawing<M: ColorModel>(
+pub(crate) fn drawing<P: Opaque>(
     alloc: Global,
     width: u32,
     height: u32,
-    colors: &[Shade<M>],
+    colors: &[P],
     run: u32,
     random: &mut Random,
-) -> Option<Raster<Shade<M>>> {
-    let mut picture = Raster::<Shade<M>>::with_clear(alloc, width, height).ok()?;
+) -> Option<Raster<P>> {
+    let mut picture = Raster::<P>::with_clear(alloc, width, height).ok()?;
     let mut left = 0_u32;
-    let mut clr = Shade::<M>::default();
+    let mut clr = P::default();
     let count = (colors.len() & 65535) as u32;
     for pixel in picture.pixels_mut().iter_mut() {
         if left == 0 {
@@ -189,13 +223,13 @@ fn scaled(channel: u8, alpha: u8) -> u8 {
 }
 
 /// Makes a sprite: runs of up to 32 pixels, of which some are clear, some opaque, and some neither.
-pub(crate) fn sprite<M: ColorModel>(
+pub(crate) fn sprite<P: Inked>(
     alloc: Global,
     width: u32,
     height: u32,
     random: &mut Random,
-) -> Option<Raster<Ink<M>>> {
-    let mut sprite = Raster::<Ink<M>>::with_clear(alloc, width, height).ok()?;
+) -> Option<Raster<P>> {
+    let mut sprite = Raster::<P>::with_clear(alloc, width, height).ok()?;
     let mut left = 0_u32;
     let mut kind = 0_u32;
     for pixel in sprite.pixels_mut().iter_mut() {
@@ -206,7 +240,7 @@ pub(crate) fn sprite<M: ColorModel>(
         left -= 1;
         let bits = random.bits();
         let alpha = alpha_of(kind, bits);
-        *pixel = Ink::<M>::new(
+        *pixel = P::of(
             scaled(byte(bits >> 8), alpha),
             scaled(byte(bits >> 16), alpha),
             scaled(byte(bits >> 24), alpha),
@@ -217,13 +251,13 @@ pub(crate) fn sprite<M: ColorModel>(
 }
 
 /// Makes the mask of a glyph: strokes with soft edges, and more that is clear.
-pub(crate) fn glyph<M: ColorModel>(
+pub(crate) fn glyph<P: Covering>(
     alloc: Global,
     width: u32,
     height: u32,
     random: &mut Random,
-) -> Option<Raster<Cover<M>>> {
-    let mut glyph = Raster::<Cover<M>>::with_clear(alloc, width, height).ok()?;
+) -> Option<Raster<P>> {
+    let mut glyph = Raster::<P>::with_clear(alloc, width, height).ok()?;
     let mut left = 0_u32;
     let mut kind = 0_u32;
     for pixel in glyph.pixels_mut().iter_mut() {
@@ -241,7 +275,7 @@ pub(crate) fn glyph<M: ColorModel>(
             4..=5 => 255,
             _ => byte(random.bits()),
         };
-        *pixel = Cover::<M>::new(value);
+        *pixel = P::of(value);
     }
     Some(glyph)
 }

@@ -2,47 +2,47 @@
 
 use crate::calls;
 use crate::digest::Digest;
-use crate::pictures::{self, Shade, color_of};
+use crate::pictures::{self, Opaque, color_of};
 use crate::random::Random;
 use crate::size::Size;
 use pix::rgb::SRgb8;
-use pix::{ColorModel, ColorTable, Palette, Raster};
+use pix::{ColorTable, Palette, Raster};
 use std::alloc::Global;
 
 /// Does the job: twice, on other inputs of the same kinds and sizes, where the size is whole.
-pub(crate) fn run<M: ColorModel>(
+pub(crate) fn run<P: Opaque>(
     alloc: Global,
     size: Size,
     random: &mut Random,
     digest: &mut Digest,
 ) -> Option<()> {
     for _ in 0..=size.of(1) {
-        inputs::<M>(alloc, size, random, digest)?;
+        inputs::<P>(alloc, size, random, digest)?;
     }
     Some(())
 }
 
 /// Indexes an input of each kind.
-fn inputs<M: ColorModel>(
+fn inputs<P: Opaque>(
     alloc: Global,
     size: Size,
     random: &mut Random,
     digest: &mut Digest,
 ) -> Option<()> {
-    let colors = pictures::colors::<M>(alloc, size.of(8000), random)?;
+    let colors = pictures::colors::<P>(alloc, size.of(8000), random)?;
     let sheet = pictures::drawing(alloc, size.of(512), size.of(384), &colors, 4, random)?;
     wide(alloc, sheet, false, digest)?;
-    let noise = pictures::noise::<M>(alloc, size.of(160), size.of(160), random)?;
+    let noise = pictures::noise::<P>(alloc, size.of(160), size.of(160), random)?;
     wide(alloc, noise, false, digest)?;
-    let photo = pictures::photo::<M>(alloc, size.of(400), size.of(300), random)?;
+    let photo = pictures::photo::<P>(alloc, size.of(400), size.of(300), random)?;
     wide(alloc, photo, true, digest)?;
     for _ in 0..size.of(16) {
-        let photo = pictures::photo::<M>(alloc, 240, 200, random)?;
+        let photo = pictures::photo::<P>(alloc, 240, 200, random)?;
         few(alloc, &photo, color_of(36, 36, 36), digest)?;
     }
-    let photo = pictures::photo::<M>(alloc, size.of(1024), size.of(768), random)?;
+    let photo = pictures::photo::<P>(alloc, size.of(1024), size.of(768), random)?;
     few(alloc, &photo, color_of(36, 36, 36), digest)?;
-    let colors = pictures::colors::<M>(alloc, 250, random)?;
+    let colors = pictures::colors::<P>(alloc, 250, random)?;
     let drawing = pictures::drawing(alloc, size.of(1024), size.of(768), &colors, 20, random)?;
     few(alloc, &drawing, color_of(0, 0, 0), digest)
 }
@@ -55,9 +55,9 @@ fn near(entries: usize) -> SRgb8 {
 
 /// Indexes a picture by a palette of up to 65536 colors, whose threshold is 0 or grows, and counts
 /// its indices.
-fn wide<M: ColorModel>(
+fn wide<P: Opaque>(
     alloc: Global,
-    picture: Raster<Shade<M>>,
+    picture: Raster<P>,
     grows: bool,
     digest: &mut Digest,
 ) -> Option<()> {
@@ -81,9 +81,9 @@ fn wide<M: ColorModel>(
 }
 
 /// Indexes a picture by a table of up to 256 colors with a threshold.
-fn few<M: ColorModel>(
+fn few<P: Opaque>(
     alloc: Global,
-    picture: &Raster<Shade<M>>,
+    picture: &Raster<P>,
     threshold: SRgb8,
     digest: &mut Digest,
 ) -> Option<()> {

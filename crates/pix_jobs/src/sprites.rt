@@ -1,17 +1,20 @@
 //! Sprites, layers and text: what compositors, games and terminals draw.
 ghost use Rattle.std.specs.Prelude.{◌≡◌, ◌≤◌, ◌+◌};
 
-use crate::digest::Digest;
-use crate::pictures::{self, Ink};
+use crate::digest::{Bytes, Digest};
+use crate::pictures::{self, Covering, Ink, Inked};
 use crate::random::Random;
 use crate::size::Size;
-use pix::chan::{Ch8, Ch16, Channel, Gamma, Linear, Premultiplied};
+use pix::chan::{Ch16, Gamma, Linear, Premultiplied};
 use pix::el::{Pix, Pixel};
 use pix::hsv::Hsv;
 use pix::matte::{Matte, Matte8, Matte16};
 use pix::ops::Op;
 use pix::{ColorModel, Command, Raster, Region};
 use std::alloc::{AllocError, Global};
+
+/// A pixel of a sprite of 16 bits.
+type Light<M> = Pix<4, Ch16, M, Premultiplied, Linear>;
 
 /// What is drawn: sprites, and the masks of glyphs.
 #[derive(Drop)]
@@ -33,7 +36,7 @@ pub(crate) fn run<M: ColorModel>(
     requires has_alpha { 4 ≡ M.ALPHA + 1 }
 {
     let sheet = Sheet {
-        sprites: sprites::<M>(alloc, random)?,
+        sprites: sprites::<Ink<M>>(alloc, random)?,
         masks: glyphs(alloc, random)?,
     };
     let mut page = Raster::<Ink<M>>::with_clear(alloc, size.of(1920), size.of(1080)).ok()?;
@@ -42,13 +45,13 @@ pub(crate) fn run<M: ColorModel>(
     }
     digest.add_raster(alloc, &page)?;
     for _ in 0..size.of(32) {
-        layers::<M>(alloc, size, random, digest)?;
+        layers::<Ink<M>>(alloc, size, random, digest)?;
     }
     awkward(alloc, size, &sheet, random, digest)
 }
 
 /// Makes sprites of 16 to 64 pixels.
-fn sprites<M: ColorModel>(alloc: Global, random: &mut Random) -> Option<Vec<Raster<Ink<M>>>> {
+fn sprites<P: Inked>(alloc: Global, random: &mut Random) -> Option<Vec<Raster<P>>> {
     let mut sprites = Vec::new(alloc);
     for _ in 0..16 {
         let (width, height) = (16 + random.below(49), 16 + random.below(49));
@@ -60,7 +63,7 @@ fn sprites<M: ColorModel>(alloc: Global, random: &mut Random) -> Option<Vec<Rast
 }
 
 /// Makes masks of glyphs of 8 to 20 pixels.
-fn glyphs(alloc: Global, random: &mut Random) -> Option<Vec<Raster<Matte8>>> {
+fn glyphs<P: Covering>(alloc: Global, random: &mut Random) -> Option<Vec<Raster<P>>> {
     let mut glyphs = Vec::new(alloc);
     for _ in 0..64 {
         let (width, height) = (5 + random.below(10), 8 + random.below(13));
@@ -88,15 +91,17 @@ where
 
 /// Draws a list of sprites and glyphs, some of which lie outside.
 ///
-/// Condition: the model has three colors.
-fn draw<C: Channel, M: ColorModel>(
+/// Condition: the format has an alpha.
+fn draw<P>(
     alloc: Global,
-    page: &mut Raster<Pix<4, C, M, Premultiplied, Linear>>,
-    sheet: &Sheet<Pix<4, C, M, Premultiplied, Linear>, Pix<1, C, Matte, Premultiplied, Linear>>,
+    page: &mut Raster<P>,
+    sheet: &Sheet<P, Pix<1, P::Chan, Matte, Premultiplied, Linear>>,
     count: u32,
     random: &mut Random,
 ) -> Option<()>
-    requires has_alpha { 4 ≡ M.ALPHA + 1 }
+where
+    P: Pixel<Alpha = Premultiplied, Gamma = Linear>,
+    requires has_alpha { P.layout.count ≡ P.layout.alpha + 1 }
 {
     let commands = scattered(alloc, sheet, count, random).ok()?;
     page.run(&commands);
@@ -104,15 +109,12 @@ fn draw<C: Channel, M: ColorModel>(
 }
 
 /// Makes a list of sprites and glyphs at places by chance.
-fn scattered<'a, C: Channel, M: ColorModel>(
+fn scattered<'a, P: Pixel, K: Pixel>(
     alloc: Global,
-    sheet: &'a Sheet<Pix<4, C, M, Premultiplied, Linear>, Pix<1, C, Matte, Premultiplied, Linear>>,
+    sheet: &'a Sheet<P, K>,
     count: u32,
     random: &mut Random,
-) -> Result<
-    Vec<Command<'a, Pix<4, C, M, Premultiplied, Linear>, Pix<1, C, Matte, Premultiplied, Linear>>>,
-    AllocError,
-> {
+) -> Result<Vec<Command<'a, P, K>>, AllocError> {
     let mut commands = Vec::new(alloc);
     for _ in 0..count {
         commands.push(placed(sheet, random))?;
@@ -121,10 +123,10 @@ fn scattered<'a, C: Channel, M: ColorModel>(
 }
 
 /// Returns the command that draws a sprite or a glyph at a place by chance.
-fn placed<'a, C: Channel, M: ColorModel>(
-    sheet: &'a Sheet<Pix<4, C, M, Premultiplied, Linear>, Pix<1, C, Matte, Premultiplied, Linear>>,
+fn placed<'a, P: Pixel, K: Pixel>(
+    sheet: &'a Sheet<P, K>,
     random: &mut Random,
-) -> Command<'a, Pix<4, C, M, Premultiplied, Linear>, Pix<1, C, Matte, Premultiplied, Linear>> {
+) -> Command<'a, P, K> {
     let x = random.below(2000) as i32 - 40;
     let y = random.below(1160) as i32 - 40;
     let to = Region::new(x, y, 64, 64);
@@ -161,18 +163,15 @@ fn placed<'a, C: Channel, M: ColorModel>(
 
 /// Composites a picture of layers, each of them as large as it.
 ///
-/// Condition: the model has three colors.
-fn layers<M: ColorModel>(
-    alloc: Global,
-    size: Size,
-    random: &mut Random,
-    digest: &mut Digest,
-) -> Option<()>
-    requires has_alpha { 4 ≡ M.ALPHA + 1 }
+/// Condition: the format has an alpha.
+fn layers<P>(alloc: Global, size: Size, random: &mut Random, digest: &mut Digest) -> Option<()>
+where
+    P: Bytes + Inked + Pixel<Alpha = Premultiplied, Gamma = Linear>,
+    requires has_alpha { P.layout.count ≡ P.layout.alpha + 1 }
 {
     let (width, height) = (size.of(960), size.of(540));
-    let mut page = Raster::<Ink<M>>::with_clear(alloc, width, height).ok()?;
-    let mut sheet = Sheet {
+    let mut page = Raster::<P>::with_clear(alloc, width, height).ok()?;
+    let mut sheet = Sheet::<P, Matte8> {
         sprites: Vec::new(alloc),
         masks: Vec::new(alloc),
     };
@@ -186,14 +185,11 @@ fn layers<M: ColorModel>(
 }
 
 /// Makes a list of thirty layers.
-fn stacked<'a, C: Channel, M: ColorModel>(
+fn stacked<'a, P: Pixel, K: Pixel>(
     alloc: Global,
-    sheet: &'a Sheet<Pix<4, C, M, Premultiplied, Linear>, Pix<1, C, Matte, Premultiplied, Linear>>,
+    sheet: &'a Sheet<P, K>,
     random: &mut Random,
-) -> Result<
-    Vec<Command<'a, Pix<4, C, M, Premultiplied, Linear>, Pix<1, C, Matte, Premultiplied, Linear>>>,
-    AllocError,
-> {
+) -> Result<Vec<Command<'a, P, K>>, AllocError> {
     let mut commands = Vec::new(alloc);
     for _ in 0..30 {
         commands.push(layer(sheet, random))?;
@@ -203,10 +199,7 @@ fn stacked<'a, C: Channel, M: ColorModel>(
 
 /// Returns the command of a layer that is moved by up to fifty pixels, or through a mask, or of a
 /// color.
-fn layer<'a, C: Channel, M: ColorModel>(
-    sheet: &'a Sheet<Pix<4, C, M, Premultiplied, Linear>, Pix<1, C, Matte, Premultiplied, Linear>>,
-    random: &mut Random,
-) -> Command<'a, Pix<4, C, M, Premultiplied, Linear>, Pix<1, C, Matte, Premultiplied, Linear>> {
+fn layer<'a, P: Pixel, K: Pixel>(sheet: &'a Sheet<P, K>, random: &mut Random) -> Command<'a, P, K> {
     let (Some(layer), Some(mask)) = (sheet.sprites.first(), sheet.masks.first()) else {
         return Command::Clear;
     };
@@ -252,32 +245,35 @@ fn awkward<M: ColorModel>(
     requires has_alpha { 4 ≡ M.ALPHA + 1 }
 {
     let masks = converted::<_, Matte8>(alloc, &sheet.masks)?;
-    let page = page_of::<Ch8, Hsv, M>(alloc, size, &sheet.sprites, masks, 600, random)?;
+    let page = page_of::<_, Ink<Hsv>>(alloc, size, &sheet.sprites, masks, 600, random)?;
     digest.add_raster(alloc, &page)?;
     let masks = converted::<_, Matte16>(alloc, &sheet.masks)?;
-    let page = page_of::<Ch16, M, M>(alloc, size, &sheet.sprites, masks, 1500, random)?;
+    let page = page_of::<_, Light<M>>(alloc, size, &sheet.sprites, masks, 1500, random)?;
     digest.add_wide_raster(&page);
     let shown = Raster::<Ink<M>>::with_raster(alloc, &page).ok()?;
     digest.add_raster(alloc, &shown)
 }
 
-/// Draws lists of sprites and glyphs on a page of channels of a width and of the model `T`.
+/// Draws lists of sprites and glyphs on a page of a format.
 ///
-/// Condition: that model has three colors.
-fn page_of<C, T: ColorModel, M: ColorModel>(
+/// Condition: the format has all channels of its model.
+fn page_of<S, D>(
     alloc: Global,
     size: Size,
-    sprites: &[Raster<Ink<M>>],
-    masks: Vec<Raster<Pix<1, C, Matte, Premultiplied, Linear>>>,
+    sprites: &[Raster<S>],
+    masks: Vec<Raster<Pix<1, D::Chan, Matte, Premultiplied, Linear>>>,
     count: u32,
     random: &mut Random,
-) -> Option<Raster<Pix<4, C, T, Premultiplied, Linear>>>
+) -> Option<Raster<D>>
 where
-    C: Channel + From<Ch8>,
-    requires four { 4 ≤ T.ALPHA + 1 }
-    requires has_alpha { 4 ≡ T.ALPHA + 1 }
+    S: Pixel,
+    D: Pixel<Alpha = Premultiplied, Gamma = Linear>,
+    D::Chan: From<S::Chan>,
+    S::Gamma: Gamma<D::Chan>,
+    requires few { D.layout.count ≤ D.layout.alpha + 1 }
+    requires has_alpha { D.layout.count ≡ D.layout.alpha + 1 }
 {
-    let sprites = converted::<_, Pix<4, C, T, Premultiplied, Linear>>(alloc, sprites)?;
+    let sprites = converted::<S, D>(alloc, sprites)?;
     let sheet = Sheet { sprites, masks };
     let mut page = Raster::with_clear(alloc, size.of(1920), size.of(1080)).ok()?;
     for _ in 0..size.of(32) {

@@ -12,9 +12,9 @@ mod steps;
 mod tiles;
 
 use crate::digest::Digest;
+use crate::pictures::Opaque;
 use crate::random::Random;
 use crate::size::Size;
-use pix::ColorModel;
 use std::alloc::Global;
 
 /// The parts, in the order in which they are done.
@@ -70,20 +70,20 @@ pub(crate) const ALONE: [&str; 8] = [
 ];
 
 /// Does all parts of the workload.
-pub(crate) fn run<M: ColorModel>(
+pub(crate) fn run<P: Opaque>(
     alloc: Global,
     size: Size,
     random: &mut Random,
     digest: &mut Digest,
 ) -> Option<()> {
     for part in PARTS {
-        run_part::<M>(alloc, part, size, random, digest)?;
+        run_part::<P>(alloc, part, size, random, digest)?;
     }
     Some(())
 }
 
 /// Does a part.
-pub(crate) fn run_part<M: ColorModel>(
+pub(crate) fn run_part<P: Opaque>(
     alloc: Global,
     part: &str,
     size: Size,
@@ -91,15 +91,15 @@ pub(crate) fn run_part<M: ColorModel>(
     digest: &mut Digest,
 ) -> Option<()> {
     match part {
-        "near-90" => near::run::<M>(alloc, 90, size, random, digest),
-        "near-150" => near::run::<M>(alloc, 150, size, random, digest),
-        "near-200" => near::run::<M>(alloc, 200, size, random, digest),
+        "near-90" => near::run::<P>(alloc, 90, size, random, digest),
+        "near-150" => near::run::<P>(alloc, 150, size, random, digest),
+        "near-200" => near::run::<P>(alloc, 200, size, random, digest),
         "tiles-16" => tiles::by_chance(alloc, 16, size, random, digest),
         "tiles-128" => tiles::by_chance(alloc, 128, size, random, digest),
         "tiles-256" => tiles::by_chance(alloc, 256, size, random, digest),
         "tiles-alike" => tiles::alike(alloc, size, random, digest),
         "set" => long::set(alloc, size, random, digest),
-        "order" => long::order::<M>(alloc, size, random, digest),
+        "order" => long::order::<P>(alloc, size, random, digest),
         "narrow-1" => narrow::run(alloc, 1, size, random, digest),
         "narrow-2" => narrow::run(alloc, 2, size, random, digest),
         "narrow-4" => narrow::run(alloc, 4, size, random, digest),
@@ -108,14 +108,14 @@ pub(crate) fn run_part<M: ColorModel>(
         "narrow-32" => narrow::run(alloc, 32, size, random, digest),
         "narrow-64" => narrow::run(alloc, 64, size, random, digest),
         "narrow-any" => narrow::any(alloc, size, random, digest),
-        "noise-64" => steps::noise::<M>(alloc, 64, size, random, digest),
-        "noise-65" => steps::noise::<M>(alloc, 65, size, random, digest),
-        "noise-170" => steps::noise::<M>(alloc, 170, size, random, digest),
-        "noise-171" => steps::noise::<M>(alloc, 171, size, random, digest),
-        "noise-1024" => steps::noise::<M>(alloc, 1024, size, random, digest),
-        "refined-32" => steps::refined::<M>(alloc, 32, size, random, digest),
-        "refined-33" => steps::refined::<M>(alloc, 33, size, random, digest),
-        "one-place" => steps::one_place::<M>(alloc, size, random, digest),
-        _ => mapped::run_part::<M>(alloc, part, size, random, digest),
+        "noise-64" => steps::noise::<P>(alloc, 64, size, random, digest),
+        "noise-65" => steps::noise::<P>(alloc, 65, size, random, digest),
+        "noise-170" => steps::noise::<P>(alloc, 170, size, random, digest),
+        "noise-171" => steps::noise::<P>(alloc, 171, size, random, digest),
+        "noise-1024" => steps::noise::<P>(alloc, 1024, size, random, digest),
+        "refined-32" => steps::refined::<P>(alloc, 32, size, random, digest),
+        "refined-33" => steps::refined::<P>(alloc, 33, size, random, digest),
+        "one-place" => steps::one_place::<P>(alloc, size, random, digest),
+        _ => mapped::run_part::<P>(alloc, part, size, random, digest),
     }
 }

@@ -1,11 +1,11 @@
 //! Palettes of many colors, in the order of chance.
 
 use crate::digest::Digest;
-use crate::pictures::{self, color_of};
+use crate::pictures::{self, Opaque, color_of};
 use crate::random::Random;
 use crate::size::Size;
-use pix::rgb::{Rgb, SRgb8};
-use pix::{ColorModel, Palette};
+use pix::Palette;
+use pix::rgb::SRgb8;
 use std::alloc::Global;
 
 /// Sets colors one after the other, and some of them again.
@@ -15,7 +15,7 @@ pub(crate) fn set(
     random: &mut Random,
     digest: &mut Digest,
 ) -> Option<()> {
-    let colors = pictures::colors::<Rgb>(alloc, size.of(16384), random)?;
+    let colors = pictures::colors::<SRgb8>(alloc, size.of(16384), random)?;
     let mut palette = Palette::new(alloc, 65536).ok()?;
     for clr in &colors {
         digest.add(palette.set_entry(*clr)? as u64);
@@ -32,13 +32,13 @@ fn near(_entries: usize) -> SRgb8 {
 }
 
 /// Indexes noise by a palette with a small threshold, to which most of its colors are added.
-pub(crate) fn order<M: ColorModel>(
+pub(crate) fn order<P: Opaque>(
     alloc: Global,
     size: Size,
     random: &mut Random,
     digest: &mut Digest,
 ) -> Option<()> {
-    let noise = pictures::noise::<M>(alloc, size.of(181), size.of(181), random)?;
+    let noise = pictures::noise::<P>(alloc, size.of(181), size.of(181), random)?;
     let mut palette = Palette::new(alloc, 65536).ok()?;
     palette.set_threshold_fn(near);
     let image = palette.make_indexed_wide(alloc, noise).ok()??;

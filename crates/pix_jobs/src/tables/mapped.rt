@@ -1,13 +1,13 @@
 //! Images whose pixels are matched to a table of 256 colors: most of them are small.
 
 use crate::digest::Digest;
-use crate::pictures::{self, Shade, color_of};
+use crate::pictures::{self, Opaque, color_of};
 use crate::random::Random;
 use crate::size::Size;
 use crate::{calls, errors};
 use pix::gray::Gray8;
-use pix::rgb::Rgb;
-use pix::{ColorModel, ColorTable, Raster};
+use pix::rgb::SRgb8;
+use pix::{ColorTable, Raster};
 use std::alloc::Global;
 
 /// How a picture is matched.
@@ -19,7 +19,7 @@ enum Way {
 }
 
 /// Does a part: small images of a side, or images of grays or of dark colors.
-pub(crate) fn run_part<M: ColorModel>(
+pub(crate) fn run_part<P: Opaque>(
     alloc: Global,
     part: &str,
     size: Size,
@@ -27,25 +27,25 @@ pub(crate) fn run_part<M: ColorModel>(
     digest: &mut Digest,
 ) -> Option<()> {
     match part {
-        "map-1" => small::<M>(alloc, Way::Nearest, 1, size, random, digest),
-        "map-2" => small::<M>(alloc, Way::Nearest, 2, size, random, digest),
-        "map-8" => small::<M>(alloc, Way::Nearest, 8, size, random, digest),
-        "map-32" => small::<M>(alloc, Way::Nearest, 32, size, random, digest),
-        "alpha-1" => small::<M>(alloc, Way::ByAlpha, 1, size, random, digest),
-        "alpha-2" => small::<M>(alloc, Way::ByAlpha, 2, size, random, digest),
-        "alpha-8" => small::<M>(alloc, Way::ByAlpha, 8, size, random, digest),
-        "alpha-32" => small::<M>(alloc, Way::ByAlpha, 32, size, random, digest),
-        "diffuse-1" => small::<M>(alloc, Way::Diffused, 1, size, random, digest),
-        "diffuse-2" => small::<M>(alloc, Way::Diffused, 2, size, random, digest),
-        "diffuse-8" => small::<M>(alloc, Way::Diffused, 8, size, random, digest),
-        "diffuse-32" => small::<M>(alloc, Way::Diffused, 32, size, random, digest),
-        "grays-1" => grays::<M>(alloc, 1, size, random, digest),
-        "grays-2" => grays::<M>(alloc, 2, size, random, digest),
-        "grays-8" => grays::<M>(alloc, 8, size, random, digest),
-        "grays-32" => grays::<M>(alloc, 32, size, random, digest),
-        "grays-photo" => gray_photo::<M>(alloc, size, random, digest),
-        "grays-noise" => gray_noise::<M>(alloc, size, random, digest),
-        _ => dark::<M>(alloc, size, random, digest),
+        "map-1" => small::<P>(alloc, Way::Nearest, 1, size, random, digest),
+        "map-2" => small::<P>(alloc, Way::Nearest, 2, size, random, digest),
+        "map-8" => small::<P>(alloc, Way::Nearest, 8, size, random, digest),
+        "map-32" => small::<P>(alloc, Way::Nearest, 32, size, random, digest),
+        "alpha-1" => small::<P>(alloc, Way::ByAlpha, 1, size, random, digest),
+        "alpha-2" => small::<P>(alloc, Way::ByAlpha, 2, size, random, digest),
+        "alpha-8" => small::<P>(alloc, Way::ByAlpha, 8, size, random, digest),
+        "alpha-32" => small::<P>(alloc, Way::ByAlpha, 32, size, random, digest),
+        "diffuse-1" => small::<P>(alloc, Way::Diffused, 1, size, random, digest),
+        "diffuse-2" => small::<P>(alloc, Way::Diffused, 2, size, random, digest),
+        "diffuse-8" => small::<P>(alloc, Way::Diffused, 8, size, random, digest),
+        "diffuse-32" => small::<P>(alloc, Way::Diffused, 32, size, random, digest),
+        "grays-1" => grays::<P>(alloc, 1, size, random, digest),
+        "grays-2" => grays::<P>(alloc, 2, size, random, digest),
+        "grays-8" => grays::<P>(alloc, 8, size, random, digest),
+        "grays-32" => grays::<P>(alloc, 32, size, random, digest),
+        "grays-photo" => gray_photo::<P>(alloc, size, random, digest),
+        "grays-noise" => gray_noise::<P>(alloc, size, random, digest),
+        _ => dark::<P>(alloc, size, random, digest),
     }
 }
 
@@ -55,7 +55,7 @@ fn count_of(side: u32, size: Size) -> u32 {
 }
 
 /// Matches noise to a table of colors by chance, and photographs to the table of a photograph.
-fn small<M: ColorModel>(
+fn small<P: Opaque>(
     alloc: Global,
     how: Way,
     side: u32,
@@ -63,24 +63,24 @@ fn small<M: ColorModel>(
     random: &mut Random,
     digest: &mut Digest,
 ) -> Option<()> {
-    let photo = pictures::photo::<M>(alloc, 240, 200, random)?;
+    let photo = pictures::photo::<P>(alloc, 240, 200, random)?;
     let of_photo = calls::quantize(alloc, &photo).ok()??;
-    let noise = pictures::noise::<M>(alloc, 16, 16, random)?;
+    let noise = pictures::noise::<P>(alloc, 16, 16, random)?;
     let by_chance = calls::quantize(alloc, &noise).ok()??;
     for _ in 0..count_of(side, size).div_ceil(2) {
-        let noise = pictures::noise::<M>(alloc, side, side, random)?;
+        let noise = pictures::noise::<P>(alloc, side, side, random)?;
         match_made(alloc, &by_chance, &noise, how, digest)?;
-        let photo = pictures::photo::<M>(alloc, side, side, random)?;
+        let photo = pictures::photo::<P>(alloc, side, side, random)?;
         match_made(alloc, &of_photo, &photo, how, digest)?;
     }
     Some(())
 }
 
 /// Matches a picture in one way to a table that was made of a picture.
-fn match_made<M: ColorModel>(
+fn match_made<P: Opaque>(
     alloc: Global,
     table: &ColorTable,
-    picture: &Raster<Shade<M>>,
+    picture: &Raster<P>,
     how: Way,
     digest: &mut Digest,
 ) -> Option<()> {
@@ -93,10 +93,10 @@ fn match_made<M: ColorModel>(
 }
 
 /// Matches a picture to a table that was set.
-fn match_picture<M: ColorModel>(
+fn match_picture<P: Opaque>(
     alloc: Global,
     table: &ColorTable,
-    picture: &Raster<Shade<M>>,
+    picture: &Raster<P>,
     digest: &mut Digest,
 ) -> Option<()> {
     let image = matched(alloc, table, picture, Way::Nearest)?;
@@ -105,10 +105,10 @@ fn match_picture<M: ColorModel>(
 }
 
 /// Returns the indices of a picture, matched in one way.
-fn matched<M: ColorModel>(
+fn matched<P: Opaque>(
     alloc: Global,
     table: &ColorTable,
-    picture: &Raster<Shade<M>>,
+    picture: &Raster<P>,
     how: Way,
 ) -> Option<Raster<Gray8>> {
     match how {
@@ -128,7 +128,7 @@ fn gray_table(alloc: Global) -> Option<ColorTable> {
 }
 
 /// Matches small noise to grays.
-fn grays<M: ColorModel>(
+fn grays<P: Opaque>(
     alloc: Global,
     side: u32,
     size: Size,
@@ -137,14 +137,14 @@ fn grays<M: ColorModel>(
 ) -> Option<()> {
     let table = gray_table(alloc)?;
     for _ in 0..count_of(side, size) {
-        let noise = pictures::noise::<M>(alloc, side, side, random)?;
+        let noise = pictures::noise::<P>(alloc, side, side, random)?;
         match_picture(alloc, &table, &noise, digest)?;
     }
     Some(())
 }
 
 /// Matches photographs to grays.
-fn gray_photo<M: ColorModel>(
+fn gray_photo<P: Opaque>(
     alloc: Global,
     size: Size,
     random: &mut Random,
@@ -152,43 +152,43 @@ fn gray_photo<M: ColorModel>(
 ) -> Option<()> {
     let table = gray_table(alloc)?;
     for _ in 0..size.times(4) {
-        let photo = pictures::photo::<M>(alloc, 200, 200, random)?;
+        let photo = pictures::photo::<P>(alloc, 200, 200, random)?;
         match_picture(alloc, &table, &photo, digest)?;
     }
     Some(())
 }
 
 /// Matches noise to grays.
-fn gray_noise<M: ColorModel>(
+fn gray_noise<P: Opaque>(
     alloc: Global,
     size: Size,
     random: &mut Random,
     digest: &mut Digest,
 ) -> Option<()> {
     let table = gray_table(alloc)?;
-    let noise = pictures::noise::<M>(alloc, size.of(256), size.of(256), random)?;
+    let noise = pictures::noise::<P>(alloc, size.of(256), size.of(256), random)?;
     match_picture(alloc, &table, &noise, digest)
 }
 
 /// Matches a dark picture to a table of sixteen colors and 240 that are nearly black.
-fn dark<M: ColorModel>(
+fn dark<P: Opaque>(
     alloc: Global,
     size: Size,
     random: &mut Random,
     digest: &mut Digest,
 ) -> Option<()> {
     let mut table = ColorTable::new(alloc, 256, color_of(0, 0, 0)).ok()?;
-    for clr in pictures::colors::<Rgb>(alloc, 16, random)?.iter() {
+    for clr in pictures::colors::<SRgb8>(alloc, 16, random)?.iter() {
         table.set_entry(*clr);
     }
     for at in 0..240_u8 {
         table.set_entry(color_of(at / 60, at / 15 % 4, at % 15));
     }
-    let mut picture = Raster::<Shade<M>>::with_clear(alloc, size.of(240), size.of(200)).ok()?;
+    let mut picture = Raster::<P>::with_clear(alloc, size.of(240), size.of(200)).ok()?;
     for pixel in picture.pixels_mut().iter_mut() {
         let bits = random.bits();
         let shade = |at: u32| ((bits >> at) & 31) as u8;
-        *pixel = Shade::<M>::new(shade(8), shade(16), shade(24));
+        *pixel = P::of(shade(8), shade(16), shade(24));
     }
     match_picture(alloc, &table, &picture, digest)
 }

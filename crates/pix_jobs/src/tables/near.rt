@@ -2,15 +2,15 @@
 
 use crate::calls;
 use crate::digest::Digest;
-use crate::pictures::{self, color_of};
+use crate::pictures::{self, Opaque, color_of};
 use crate::random::Random;
 use crate::size::Size;
-use pix::{ColorModel, ColorTable};
+use pix::ColorTable;
 use std::alloc::Global;
 
 /// Indexes photographs by tables of a threshold, or of the next greater one by which the table has
 /// room for all colors.
-pub(crate) fn run<M: ColorModel>(
+pub(crate) fn run<P: Opaque>(
     alloc: Global,
     least: u8,
     size: Size,
@@ -18,7 +18,7 @@ pub(crate) fn run<M: ColorModel>(
     digest: &mut Digest,
 ) -> Option<()> {
     for _ in 0..size.times(4) {
-        let photo = pictures::photo::<M>(alloc, 240, 200, random)?;
+        let photo = pictures::photo::<P>(alloc, 240, 200, random)?;
         for more in 0..16_u8 {
             let apart = least.saturating_add(10 * more);
             let near = color_of(apart, apart, apart);

@@ -2,11 +2,11 @@
 //! the worst for a table that counts colors.
 
 use crate::digest::Digest;
-use crate::pictures::{self, Shade};
+use crate::pictures::{self, Opaque};
 use crate::random::{Random, byte};
 use crate::size::Size;
 use crate::{calls, errors};
-use pix::{ColorModel, ColorTable, Raster};
+use pix::{ColorTable, Raster};
 use std::alloc::Global;
 
 /// The inverse, modulo 2 to the power of 24, of the number by which colors get the places where
@@ -14,9 +14,9 @@ use std::alloc::Global;
 const INVERSE: u32 = 7834747;
 
 /// Adds the indices of a picture in a table, or their squared error.
-fn add_matched<M: ColorModel>(
+fn add_matched<P: Opaque>(
     alloc: Global,
-    picture: &Raster<Shade<M>>,
+    picture: &Raster<P>,
     table: &ColorTable,
     digest: &mut Digest,
 ) -> Option<()> {
@@ -29,47 +29,47 @@ fn add_matched<M: ColorModel>(
 }
 
 /// Matches noise of 64 columns and some rows to a table of 256 colors.
-pub(crate) fn noise<M: ColorModel>(
+pub(crate) fn noise<P: Opaque>(
     alloc: Global,
     rows: u32,
     size: Size,
     random: &mut Random,
     digest: &mut Digest,
 ) -> Option<()> {
-    let sample = pictures::noise::<M>(alloc, 16, 16, random)?;
+    let sample = pictures::noise::<P>(alloc, 16, 16, random)?;
     let table = calls::quantize(alloc, &sample).ok()??;
     for _ in 0..size.times(64) {
-        let picture = pictures::noise::<M>(alloc, 64, size.of(rows), random)?;
+        let picture = pictures::noise::<P>(alloc, 64, size.of(rows), random)?;
         add_matched(alloc, &picture, &table, digest)?;
     }
     Some(())
 }
 
 /// Makes refined tables of so many colors of a photograph.
-pub(crate) fn refined<M: ColorModel>(
+pub(crate) fn refined<P: Opaque>(
     alloc: Global,
     limit: usize,
     size: Size,
     random: &mut Random,
     digest: &mut Digest,
 ) -> Option<()> {
-    let picture = pictures::photo::<M>(alloc, size.of(800), size.of(600), random)?;
+    let picture = pictures::photo::<P>(alloc, size.of(800), size.of(600), random)?;
     let table = calls::refined(alloc, &picture, limit).ok()??;
     add_matched(alloc, &picture, &table, digest)
 }
 
 /// Makes tables of pictures whose 256 colors all have the same place where colors are counted.
-pub(crate) fn one_place<M: ColorModel>(
+pub(crate) fn one_place<P: Opaque>(
     alloc: Global,
     size: Size,
     random: &mut Random,
     digest: &mut Digest,
 ) -> Option<()> {
     for _ in 0..size.times(16) {
-        let mut picture = Raster::<Shade<M>>::with_clear(alloc, size.of(240), size.of(200)).ok()?;
+        let mut picture = Raster::<P>::with_clear(alloc, size.of(240), size.of(200)).ok()?;
         for pixel in picture.pixels_mut().iter_mut() {
             let bits = u64::from(random.below(256).wrapping_mul(16).wrapping_mul(INVERSE));
-            *pixel = Shade::<M>::new(byte(bits >> 16), byte(bits >> 8), byte(bits));
+            *pixel = P::of(byte(bits >> 16), byte(bits >> 8), byte(bits));
         }
         let table = calls::quantize(alloc, &picture).ok()??;
         add_matched(alloc, &picture, &table, digest)?;

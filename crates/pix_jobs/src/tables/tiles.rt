@@ -5,7 +5,7 @@ use crate::pictures::{self, color_of};
 use crate::random::Random;
 use crate::size::Size;
 use pix::Palette;
-use pix::rgb::{Rgb, SRgb8};
+use pix::rgb::SRgb8;
 use std::alloc::Global;
 
 /// How many colors a tile has.
@@ -19,7 +19,7 @@ pub(crate) fn by_chance(
     random: &mut Random,
     digest: &mut Digest,
 ) -> Option<()> {
-    let colors = pictures::colors::<Rgb>(alloc, count, random)?;
+    let colors = pictures::colors::<SRgb8>(alloc, count, random)?;
     run(alloc, &colors, size, random, digest)
 }
 
