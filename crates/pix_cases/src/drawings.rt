@@ -5,18 +5,21 @@ use crate::flaw::Flaw;
 use crate::images::{image, picture, pixel};
 use crate::regions::region;
 use crate::words::operator;
-use pix::chan::{Ch8, Linear, Premultiplied};
-use pix::el::Pixel;
-use pix::matte::Matte8;
+use pix::chan::{Linear, Premultiplied};
+use pix::el::{Pix, Pixel};
+use pix::matte::Matte;
 use pix::ops::{Blend, Op, OpVisitor};
-use pix::{ColorModel, Command, Raster};
+use pix::{ColorModel, Command, Raster, Region};
 use std::alloc::Global;
+
+/// A matte of channels of a width.
+type Cover<C> = Pix<1, C, Matte, Premultiplied, Linear>;
 
 /// The images that commands read.
 #[derive(Drop)]
-struct Images<P> {
+struct Images<P, K> {
     source: Raster<P>,
-    mattes: Raster<Matte8>,
+    mattes: Raster<K>,
 }
 
 /// `list 2x1 - ; paint SrcOver 0,0,1,1 40806080`: `list` for one list of all commands or `calls`
@@ -37,7 +40,7 @@ struct Images<P> {
 /// The answer is the size and the pixels of the raster after them. The format must have an alpha.
 pub(crate) fn draw<P>(words: &[&str], alloc: Global) -> Result<String, Flaw>
 where
-    P: Pixel<Chan = Ch8, Alpha = Premultiplied, Gamma = Linear>,
+    P: Pixel<Alpha = Premultiplied, Gamma = Linear>,
 {
     let [way, size, pixels, words @ ..] = words else {
         return Err(Flaw::Count);
@@ -48,7 +51,7 @@ where
     let mut raster = image::<P>(size, pixels, alloc)?;
     let images = Images {
         source: named_image::<P>("source", words, alloc)?,
-        mattes: named_image::<Matte8>("mattes", words, alloc)?,
+        mattes: named_image::<Cover<P::Chan>>("mattes", words, alloc)?,
     };
     let mut commands = Vec::new(alloc);
     for part in words.split(|word| *word == ";") {
@@ -85,11 +88,11 @@ fn named_image<P: Pixel>(name: &str, words: &[&str], alloc: Global) -> Result<Ra
 }
 
 /// The command of these words, with the images that it reads.
-fn command_of<'a, P: Pixel>(
+fn command_of<'a, P: Pixel, K: Pixel>(
     words: &[&str],
-    images: &'a Images<P>,
+    images: &'a Images<P, K>,
     alloc: Global,
-) -> Result<Command<'a, P, Matte8>, Flaw> {
+) -> Result<Command<'a, P, K>, Flaw> {
     match words {
         ["clear"] => Ok(Command::Clear),
         ["fill", reg, clr] => {
@@ -106,28 +109,57 @@ fn command_of<'a, P: Pixel>(
 }
 
 /// The command of a name that composites by an operator.
-fn composite_of<'a, P: Pixel>(
+fn composite_of<'a, P: Pixel, K: Pixel>(
     name: &str,
     op: Op,
     words: &[&str],
-    images: &'a Images<P>,
+    images: &'a Images<P, K>,
     alloc: Global,
-) -> Result<Command<'a, P, Matte8>, Flaw> {
-    let [to, rest @ ..] = words else {
+) -> Result<Command<'a, P, K>, Flaw> {
+    let [to, words @ ..] = words else {
         return Err(Flaw::Count);
     };
     let (to, src) = (region(to, alloc)?, &images.source);
-    match (name, rest) {
-        ("paint", [clr]) => {
-            let (reg, clr) = (to, pixel(clr, alloc)?);
-            Ok(Command::Color { reg, clr, op })
+    if name == "paint" {
+        let [clr] = words else {
+            return Err(Flaw::Count);
+        };
+        let (reg, clr) = (to, pixel(clr, alloc)?);
+        return Ok(Command::Color { reg, clr, op });
+    }
+    let [from, words @ ..] = words else {
+        return Err(Flaw::Count);
+    };
+    let from = region(from, alloc)?;
+    match words {
+        [] if name == "comp" => Ok(Command::Raster { to, src, from, op }),
+        [word] if name == "fade" => {
+            let alpha = pixel(word, alloc)?;
+            Ok(Command::RasterAlpha {
+                to,
+                src,
+                from,
+                alpha,
+                op,
+            })
         }
-        ("comp", [from]) => {
-            let from = region(from, alloc)?;
-            Ok(Command::Raster { to, src, from, op })
-        }
-        ("matte", [from, clr]) => {
-            let (src, from, clr) = (&images.mattes, region(from, alloc)?, pixel(clr, alloc)?);
+        [word] => masked_of((name, op), (to, from), word, images, alloc),
+        _ => Err(Flaw::Name),
+    }
+}
+
+/// The command of a name and an operator that composites through the mattes.
+fn masked_of<'a, P: Pixel, K: Pixel>(
+    (name, op): (&str, Op),
+    (to, from): (Region, Region),
+    word: &str,
+    images: &'a Images<P, K>,
+    alloc: Global,
+) -> Result<Command<'a, P, K>, Flaw> {
+    let (src, mask) = (&images.source, &images.mattes);
+    match name {
+        "matte" => {
+            let (src, clr) = (mask, pixel(word, alloc)?);
             Ok(Command::Matte {
                 to,
                 src,
@@ -136,9 +168,8 @@ fn composite_of<'a, P: Pixel>(
                 op,
             })
         }
-        ("mask", [from, mask_from]) => {
-            let (from, mask_from) = (region(from, alloc)?, region(mask_from, alloc)?);
-            let mask = &images.mattes;
+        "mask" => {
+            let mask_from = region(word, alloc)?;
             Ok(Command::RasterMatte {
                 to,
                 src,
@@ -148,24 +179,14 @@ fn composite_of<'a, P: Pixel>(
                 op,
             })
         }
-        ("fade", [from, alpha]) => {
-            let (from, alpha) = (region(from, alloc)?, pixel(alpha, alloc)?);
-            Ok(Command::RasterAlpha {
-                to,
-                src,
-                from,
-                alpha,
-                op,
-            })
-        }
         _ => Err(Flaw::Name),
     }
 }
 
 /// Does a command by a call of its own. Condition: the format has an alpha.
-fn call<P>(raster: &mut Raster<P>, command: &Command<'_, P, Matte8>)
+fn call<P>(raster: &mut Raster<P>, command: &Command<'_, P, Cover<P::Chan>>)
 where
-    P: Pixel<Chan = Ch8, Alpha = Premultiplied, Gamma = Linear>,
+    P: Pixel<Alpha = Premultiplied, Gamma = Linear>,
     requires has_alpha { P.layout.count ≡ P.layout.alpha + 1 }
 {
     match *command {
@@ -182,13 +203,13 @@ where
 
 /// A command that composites, as a call by an operator that is a type.
 #[derive(Drop)]
-struct Composite<'a, P> {
-    command: &'a Command<'a, P, Matte8>,
+struct Composite<'a, P, K> {
+    command: &'a Command<'a, P, K>,
 }
 
-impl<P> OpVisitor<Raster<P>> for Composite<'_, P>
+impl<P> OpVisitor<Raster<P>> for Composite<'_, P, Cover<P::Chan>>
 where
-    P: Pixel<Chan = Ch8, Alpha = Premultiplied, Gamma = Linear>,
+    P: Pixel<Alpha = Premultiplied, Gamma = Linear>,
 {
     ghost can_visit = { λ _ _. P.layout.count ≡ P.layout.alpha + 1 };
 

@@ -37,23 +37,14 @@ pub(crate) fn size(word: &str) -> Result<(u32, u32), Flaw> {
 /// of them, separated by commas.
 pub(crate) fn image<P: Pixel>(word: &str, pixels: &str, alloc: Global) -> Result<Raster<P>, Flaw> {
     let (width, height) = size(word)?;
-    if let Some(color) = pixels.strip_prefix('*') {
-        let color = pixel(color, alloc)?;
-        return Raster::with_color(alloc, width, height, color)
-            .ok()
-            .ok_or(Flaw::Refused);
-    }
-    let mut raster = Raster::with_clear(alloc, width, height)
-        .ok()
-        .ok_or(Flaw::Refused)?;
-    if pixels != "-" {
-        let pixels = all::<P>(pixels, alloc)?;
-        if pixels.len() != raster.pixels().len() {
-            return Err(Flaw::Count);
-        }
-        P::copy_slice(raster.pixels_mut(), &pixels);
-    }
-    Ok(raster)
+    let made = if pixels == "-" {
+        Raster::with_clear(alloc, width, height).ok()
+    } else if let Some(color) = pixels.strip_prefix('*') {
+        Raster::with_color(alloc, width, height, pixel(color, alloc)?).ok()
+    } else {
+        Raster::with_pixels(width, height, all(pixels, alloc)?).ok()
+    };
+    made.ok_or(Flaw::Refused)
 }
 
 /// The pixels of a word, separated by commas; `-` for none.

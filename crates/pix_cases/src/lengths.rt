@@ -84,19 +84,23 @@ where
     Ok(format!(in alloc; "{entries} {right} {counted}")?)
 }
 
-/// A row of pixels in which this many colors take turns. The channels of each are the bytes of its
-/// number, the lowest first.
+/// A row of pixels in which this many colors take turns.
 fn turns<P: Pixel>(colors: u32, len: u32, alloc: Global) -> Result<Raster<P>, Flaw> {
-    let mut raster = Raster::<P>::with_clear(alloc, len, 1)?;
+    let mut raster = Raster::with_clear(alloc, len, 1)?;
     for (i, pixel) in raster.pixels_mut().iter_mut().enumerate() {
-        let mut rest = turn(i, colors);
-        for channel in pixel.channels_mut() {
-            let byte = (rest % 256) as u8;
-            *channel = P::Chan::from_ratio(i64::from(byte), 1);
-            rest /= 256;
-        }
+        spell(pixel, turn(i, colors));
     }
     Ok(raster)
+}
+
+/// Sets the channels of a pixel to the bytes of a number, the lowest first.
+fn spell<P: Pixel>(pixel: &mut P, number: usize) {
+    let mut rest = number;
+    for channel in pixel.channels_mut() {
+        let byte = (rest % 256) as u8;
+        *channel = P::Chan::from_ratio(i64::from(byte), 1);
+        rest /= 256;
+    }
 }
 
 /// The number of the color whose turn it is at a pixel.

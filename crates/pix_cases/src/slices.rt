@@ -26,25 +26,47 @@ where
         for src_len in lengths.split(',') {
             let src = series::<P>(small(src_len)?, 2, alloc)?;
             let pairs = How::Pairs(Vec::from_slice(alloc, &src)?);
-            let want = made(op, pairs, small(len)?, alloc)?;
-            let dst = made(op, How::Slice(src), small(len)?, alloc)?;
-            if dst.as_slice() != want.as_slice() {
-                return Ok(format!(in alloc; "{len} {src_len}")?);
+            match sum_of(op, pairs, How::Slice(src), small(len)?, of_slices, alloc)? {
+                Some(sum) => of_slices = sum,
+                None => return Ok(format!(in alloc; "{len} {src_len}")?),
             }
-            of_slices = summed(of_slices, &dst);
         }
-        let clr = series::<P>(1, 4, alloc)?
-            .first()
-            .copied()
-            .unwrap_or_default();
-        let want = made(op, How::One(clr), small(len)?, alloc)?;
-        let dst = made(op, How::Color(clr), small(len)?, alloc)?;
-        if dst.as_slice() != want.as_slice() {
-            return Ok(format!(in alloc; "{len} color")?);
+        let clr = drawn_pixel::<P>(4).0;
+        match sum_of(
+            op,
+            How::One(clr),
+            How::Color(clr),
+            small(len)?,
+            of_colors,
+            alloc,
+        )? {
+            Some(sum) => of_colors = sum,
+            None => return Ok(format!(in alloc; "{len} color")?),
         }
-        of_colors = summed(of_colors, &dst);
     }
     Ok(format!(in alloc; "{of_slices} {of_colors}")?)
+}
+
+/// The sum of the pixels that are made of a slice of a length, in which both ways make the same, or
+/// none where they don't. The sum begins with what was before.
+fn sum_of<P>(
+    op: Op,
+    one: How<P>,
+    other: How<P>,
+    len: u32,
+    before: u32,
+    alloc: Global,
+) -> Result<Option<u32>, AllocError>
+where
+    P: Pixel<Alpha = Premultiplied, Gamma = Linear>,
+    requires has_alpha { P.layout.count ≡ P.layout.alpha + 1 }
+{
+    let (one, other) = (made(op, one, len, alloc)?, made(op, other, len, alloc)?);
+    if one.as_slice() == other.as_slice() {
+        Ok(Some(summed(before, &other)))
+    } else {
+        Ok(None)
+    }
 }
 
 /// The pixels that are made of a slice of a length.
@@ -69,21 +91,34 @@ fn summed<P: Pixel>(before: u32, pixels: &[P]) -> u32 {
     sum
 }
 
-/// Pixels of a series of numbers that look random. One channel of four is 0 or the maximum.
+/// Pixels of a series of numbers that look random.
 fn series<P: Pixel>(len: u32, seed: u32, alloc: Global) -> Result<Vec<P>, AllocError> {
     let mut all = Vec::new(alloc);
     let mut state = seed;
     for _ in 0..len {
-        let mut pixel = P::default();
-        for channel in pixel.channels_mut() {
-            state = state.wrapping_mul(1664525).wrapping_add(1013904223);
-            *channel = match state >> 29 {
-                0 => P::Chan::MIN,
-                1 => P::Chan::MAX,
-                _ => P::Chan::from_16_bit((state / 256 % 65536) as u16),
-            };
-        }
+        let (pixel, next) = drawn_pixel::<P>(state);
         all.push(pixel)?;
+        state = next;
     }
     Ok(all)
+}
+
+/// The pixel that comes after a number of the series, and the number after it.
+fn drawn_pixel<P: Pixel>(before: u32) -> (P, u32) {
+    let mut state = before;
+    let mut pixel = P::default();
+    for channel in pixel.channels_mut() {
+        state = state.wrapping_mul(1664525).wrapping_add(1013904223);
+        *channel = drawn::<P::Chan>(state);
+    }
+    (pixel, state)
+}
+
+/// The channel of a number of the series. One of four is 0 or the maximum.
+fn drawn<C: Channel>(state: u32) -> C {
+    match state >> 29 {
+        0 => C::MIN,
+        1 => C::MAX,
+        _ => C::from_16_bit((state / 256 % 65536) as u16),
+    }
 }
