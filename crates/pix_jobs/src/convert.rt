@@ -93,9 +93,9 @@ where
 fn sixteen<S, D>(alloc: Global, src: &Raster<S>, digest: &mut Digest) -> Option<Raster<D>>
 where
     S: Pixel,
-    D: Pixel<Chan = Ch16>,
-    Ch16: From<S::Chan>,
-    S::Gamma: Gamma<Ch16>,
+    D: Pixel,
+    D::Chan: From<S::Chan>,
+    S::Gamma: Gamma<D::Chan>,
     requires few { D.layout.count ≤ D.layout.alpha + 1 }
 {
     let made = Raster::<D>::with_raster(alloc, src).ok()?;

@@ -1,6 +1,6 @@
 //! A digest of results.
 
-use pix::chan::{Alpha, Ch8, Ch16, Gamma};
+use pix::chan::{Alpha, Ch8, Channel, Gamma};
 use pix::el::{Pix, Pixel};
 use pix::gray::Gray8;
 use pix::{ColorModel, Raster};
@@ -83,11 +83,11 @@ impl Digest {
 
     /// Adds the channels of a raster of 16 bits, all bits of each, pixel by pixel, and the number
     /// of pixels.
-    pub(crate) fn add_wide_raster<P: Pixel<Chan = Ch16>>(&mut self, raster: &Raster<P>) {
+    pub(crate) fn add_wide_raster<P: Pixel>(&mut self, raster: &Raster<P>) {
         for pixel in raster.pixels() {
             let mut word = 0_u64;
             for channel in pixel.channels() {
-                word = word.rotate_left(16) ^ u64::from(u16::from(*channel));
+                word = word.rotate_left(16) ^ u64::from(channel.to_u32());
             }
             self.add(word);
         }

@@ -3,7 +3,7 @@
 
 use crate::digest::Digest;
 use crate::pictures::Opaque;
-use pix::chan::Ch8;
+use pix::chan::{Ch8, Channel};
 use pix::el::Pixel;
 use pix::gray::Gray8;
 use pix::rgb::SRgb8;
@@ -28,15 +28,22 @@ pub(crate) fn add<P: Opaque>(
 fn squared<P: Opaque>(picture: &Raster<P>, shown: &Raster<SRgb8>) -> u64 {
     let mut sum = 0_u64;
     for (wanted, found) in picture.pixels().iter().zip(shown.pixels()) {
-        for (wanted, found) in wanted.channels().iter().zip(found.channels()) {
-            sum = sum.wrapping_add(square(*wanted, *found));
-        }
+        sum = sum.wrapping_add(apart(wanted.channels(), found.channels()));
+    }
+    sum
+}
+
+/// Returns the sum of the squares of what the channels of two pixels differ by.
+fn apart<C: Channel>(wanted: &[C], found: &[Ch8]) -> u64 {
+    let mut sum = 0_u64;
+    for (wanted, found) in wanted.iter().zip(found) {
+        sum = sum.wrapping_add(square(wanted.to_u32(), found.to_u32()));
     }
     sum
 }
 
 /// Returns the square of what two channels differ by.
-fn square(wanted: Ch8, found: Ch8) -> u64 {
-    let apart = u64::from(u8::from(wanted).abs_diff(u8::from(found)));
+fn square(wanted: u32, found: u32) -> u64 {
+    let apart = u64::from(wanted.abs_diff(found));
     apart.wrapping_mul(apart)
 }

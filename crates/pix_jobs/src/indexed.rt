@@ -5,17 +5,23 @@ use crate::pictures::{self, Opaque};
 use crate::random::Random;
 use crate::size::Size;
 use crate::{calls, errors};
+use pix::chan::{Ch8, Gamma};
 use pix::gray::Gray8;
 use pix::{ColorTable, Raster};
 use std::alloc::Global;
 
 /// Does the job.
-pub(crate) fn run<P: Opaque>(
+pub(crate) fn run<P>(
     alloc: Global,
     size: Size,
     random: &mut Random,
     digest: &mut Digest,
-) -> Option<()> {
+) -> Option<()>
+where
+    P: Opaque,
+    Ch8: From<P::Chan>,
+    P::Gamma: Gamma<Ch8>,
+{
     let photo = pictures::photo::<P>(alloc, size.of(2048), size.of(1536), random)?;
     encode(alloc, &photo, digest)?;
     for _ in 0..size.of(32) {
@@ -30,7 +36,12 @@ pub(crate) fn run<P: Opaque>(
 }
 
 /// Makes a table of a picture, and its indices in two ways.
-fn encode<P: Opaque>(alloc: Global, picture: &Raster<P>, digest: &mut Digest) -> Option<()> {
+fn encode<P>(alloc: Global, picture: &Raster<P>, digest: &mut Digest) -> Option<()>
+where
+    P: Opaque,
+    Ch8: From<P::Chan>,
+    P::Gamma: Gamma<Ch8>,
+{
     let table = calls::quantize(alloc, picture).ok()??;
     let nearest = table.map_indexed(alloc, picture).ok()??;
     add(alloc, picture, &table, &nearest, digest)?;

@@ -25,7 +25,7 @@ pub(crate) type Ink<M> = Pix<4, Ch8, M, Premultiplied, Linear>;
 pub(crate) type Cover<M> = Pix<1, Ch8, M, Premultiplied, Linear>;
 
 /// A format of three colors of eight bits, as photographs have.
-pub(crate) trait Opaque: Pixel<Chan = Ch8> {
+pub(crate) trait Opaque: Pixel {
     /// Returns the color of these channels.
     fn of(red: u8, green: u8, blue: u8) -> Self;
 }
@@ -37,7 +37,7 @@ impl<M: ColorModel> Opaque for Shade<M> {
 }
 
 /// A format of three colors and an alpha of eight bits, as sprites have.
-pub(crate) trait Inked: Pixel<Chan = Ch8> {
+pub(crate) trait Inked: Pixel {
     /// Returns the color of these channels.
     fn of(red: u8, green: u8, blue: u8, alpha: u8) -> Self;
 }
@@ -49,7 +49,7 @@ impl<M: ColorModel> Inked for Ink<M> {
 }
 
 /// A format of one channel of eight bits, as masks have.
-pub(crate) trait Covering: Pixel<Chan = Ch8> {
+pub(crate) trait Covering: Pixel {
     /// Returns the value of this channel.
     fn of(value: u8) -> Self;
 }

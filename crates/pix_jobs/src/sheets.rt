@@ -5,17 +5,23 @@ use crate::digest::Digest;
 use crate::pictures::{self, Opaque, color_of};
 use crate::random::Random;
 use crate::size::Size;
+use pix::chan::{Ch8, Gamma};
 use pix::rgb::SRgb8;
 use pix::{ColorTable, Palette, Raster};
 use std::alloc::Global;
 
 /// Does the job: twice, on other inputs of the same kinds and sizes, where the size is whole.
-pub(crate) fn run<P: Opaque>(
+pub(crate) fn run<P>(
     alloc: Global,
     size: Size,
     random: &mut Random,
     digest: &mut Digest,
-) -> Option<()> {
+) -> Option<()>
+where
+    P: Opaque,
+    Ch8: From<P::Chan>,
+    P::Gamma: Gamma<Ch8>,
+{
     for _ in 0..=size.of(1) {
         inputs::<P>(alloc, size, random, digest)?;
     }
@@ -23,12 +29,12 @@ pub(crate) fn run<P: Opaque>(
 }
 
 /// Indexes an input of each kind.
-fn inputs<P: Opaque>(
-    alloc: Global,
-    size: Size,
-    random: &mut Random,
-    digest: &mut Digest,
-) -> Option<()> {
+fn inputs<P>(alloc: Global, size: Size, random: &mut Random, digest: &mut Digest) -> Option<()>
+where
+    P: Opaque,
+    Ch8: From<P::Chan>,
+    P::Gamma: Gamma<Ch8>,
+{
     let colors = pictures::colors::<P>(alloc, size.of(8000), random)?;
     let sheet = pictures::drawing(alloc, size.of(512), size.of(384), &colors, 4, random)?;
     wide(alloc, sheet, false, digest)?;
@@ -55,12 +61,12 @@ fn near(entries: usize) -> SRgb8 {
 
 /// Indexes a picture by a palette of up to 65536 colors, whose threshold is 0 or grows, and counts
 /// its indices.
-fn wide<P: Opaque>(
-    alloc: Global,
-    picture: Raster<P>,
-    grows: bool,
-    digest: &mut Digest,
-) -> Option<()> {
+fn wide<P>(alloc: Global, picture: Raster<P>, grows: bool, digest: &mut Digest) -> Option<()>
+where
+    P: Opaque,
+    Ch8: From<P::Chan>,
+    P::Gamma: Gamma<Ch8>,
+{
     let mut palette = Palette::new(alloc, 65536).ok()?;
     if grows {
         palette.set_threshold_fn(near);
@@ -81,12 +87,12 @@ fn wide<P: Opaque>(
 }
 
 /// Indexes a picture by a table of up to 256 colors with a threshold.
-fn few<P: Opaque>(
-    alloc: Global,
-    picture: &Raster<P>,
-    threshold: SRgb8,
-    digest: &mut Digest,
-) -> Option<()> {
+fn few<P>(alloc: Global, picture: &Raster<P>, threshold: SRgb8, digest: &mut Digest) -> Option<()>
+where
+    P: Opaque,
+    Ch8: From<P::Chan>,
+    P::Gamma: Gamma<Ch8>,
+{
     let mut table = ColorTable::new(alloc, 256, threshold).ok()?;
     digest.add(table.len() as u64);
     match calls::index_pixels(alloc, &mut table, picture).ok()? {

@@ -1,7 +1,7 @@
 //! Sprites, layers and text: what compositors, games and terminals draw.
 ghost use Rattle.std.specs.Prelude.{◌≡◌, ◌≤◌, ◌+◌};
 
-use crate::digest::{Bytes, Digest};
+use crate::digest::Digest;
 use crate::pictures::{self, Covering, Ink, Inked};
 use crate::random::Random;
 use crate::size::Size;
@@ -45,7 +45,7 @@ pub(crate) fn run<M: ColorModel>(
     }
     digest.add_raster(alloc, &page)?;
     for _ in 0..size.of(32) {
-        layers::<Ink<M>>(alloc, size, random, digest)?;
+        layers::<M>(alloc, size, random, digest)?;
     }
     awkward(alloc, size, &sheet, random, digest)
 }
@@ -163,15 +163,18 @@ fn placed<'a, P: Pixel, K: Pixel>(
 
 /// Composites a picture of layers, each of them as large as it.
 ///
-/// Condition: the format has an alpha.
-fn layers<P>(alloc: Global, size: Size, random: &mut Random, digest: &mut Digest) -> Option<()>
-where
-    P: Bytes + Inked + Pixel<Alpha = Premultiplied, Gamma = Linear>,
-    requires has_alpha { P.layout.count ≡ P.layout.alpha + 1 }
+/// Condition: the model has three colors.
+fn layers<M: ColorModel>(
+    alloc: Global,
+    size: Size,
+    random: &mut Random,
+    digest: &mut Digest,
+) -> Option<()>
+    requires has_alpha { 4 ≡ M.ALPHA + 1 }
 {
     let (width, height) = (size.of(960), size.of(540));
-    let mut page = Raster::<P>::with_clear(alloc, width, height).ok()?;
-    let mut sheet = Sheet::<P, Matte8> {
+    let mut page = Raster::<Ink<M>>::with_clear(alloc, width, height).ok()?;
+    let mut sheet = Sheet {
         sprites: Vec::new(alloc),
         masks: Vec::new(alloc),
     };

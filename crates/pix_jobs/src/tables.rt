@@ -15,6 +15,7 @@ use crate::digest::Digest;
 use crate::pictures::Opaque;
 use crate::random::Random;
 use crate::size::Size;
+use pix::chan::{Ch8, Gamma};
 use std::alloc::Global;
 
 /// The parts, in the order in which they are done.
@@ -70,12 +71,17 @@ pub(crate) const ALONE: [&str; 8] = [
 ];
 
 /// Does all parts of the workload.
-pub(crate) fn run<P: Opaque>(
+pub(crate) fn run<P>(
     alloc: Global,
     size: Size,
     random: &mut Random,
     digest: &mut Digest,
-) -> Option<()> {
+) -> Option<()>
+where
+    P: Opaque,
+    Ch8: From<P::Chan>,
+    P::Gamma: Gamma<Ch8>,
+{
     for part in PARTS {
         run_part::<P>(alloc, part, size, random, digest)?;
     }
@@ -83,13 +89,18 @@ pub(crate) fn run<P: Opaque>(
 }
 
 /// Does a part.
-pub(crate) fn run_part<P: Opaque>(
+pub(crate) fn run_part<P>(
     alloc: Global,
     part: &str,
     size: Size,
     random: &mut Random,
     digest: &mut Digest,
-) -> Option<()> {
+) -> Option<()>
+where
+    P: Opaque,
+    Ch8: From<P::Chan>,
+    P::Gamma: Gamma<Ch8>,
+{
     match part {
         "near-90" => near::run::<P>(alloc, 90, size, random, digest),
         "near-150" => near::run::<P>(alloc, 150, size, random, digest),

@@ -5,6 +5,7 @@ use crate::pictures::{self, Opaque, color_of};
 use crate::random::Random;
 use crate::size::Size;
 use pix::Palette;
+use pix::chan::{Ch8, Gamma};
 use pix::rgb::SRgb8;
 use std::alloc::Global;
 
@@ -32,12 +33,17 @@ fn near(_entries: usize) -> SRgb8 {
 }
 
 /// Indexes noise by a palette with a small threshold, to which most of its colors are added.
-pub(crate) fn order<P: Opaque>(
+pub(crate) fn order<P>(
     alloc: Global,
     size: Size,
     random: &mut Random,
     digest: &mut Digest,
-) -> Option<()> {
+) -> Option<()>
+where
+    P: Opaque,
+    Ch8: From<P::Chan>,
+    P::Gamma: Gamma<Ch8>,
+{
     let noise = pictures::noise::<P>(alloc, size.of(181), size.of(181), random)?;
     let mut palette = Palette::new(alloc, 65536).ok()?;
     palette.set_threshold_fn(near);

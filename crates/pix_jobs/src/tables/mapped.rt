@@ -5,6 +5,7 @@ use crate::pictures::{self, Opaque, color_of};
 use crate::random::Random;
 use crate::size::Size;
 use crate::{calls, errors};
+use pix::chan::{Ch8, Gamma};
 use pix::gray::Gray8;
 use pix::rgb::SRgb8;
 use pix::{ColorTable, Raster};
@@ -19,13 +20,18 @@ enum Way {
 }
 
 /// Does a part: small images of a side, or images of grays or of dark colors.
-pub(crate) fn run_part<P: Opaque>(
+pub(crate) fn run_part<P>(
     alloc: Global,
     part: &str,
     size: Size,
     random: &mut Random,
     digest: &mut Digest,
-) -> Option<()> {
+) -> Option<()>
+where
+    P: Opaque,
+    Ch8: From<P::Chan>,
+    P::Gamma: Gamma<Ch8>,
+{
     match part {
         "map-1" => small::<P>(alloc, Way::Nearest, 1, size, random, digest),
         "map-2" => small::<P>(alloc, Way::Nearest, 2, size, random, digest),
@@ -55,14 +61,19 @@ fn count_of(side: u32, size: Size) -> u32 {
 }
 
 /// Matches noise to a table of colors by chance, and photographs to the table of a photograph.
-fn small<P: Opaque>(
+fn small<P>(
     alloc: Global,
     how: Way,
     side: u32,
     size: Size,
     random: &mut Random,
     digest: &mut Digest,
-) -> Option<()> {
+) -> Option<()>
+where
+    P: Opaque,
+    Ch8: From<P::Chan>,
+    P::Gamma: Gamma<Ch8>,
+{
     let photo = pictures::photo::<P>(alloc, 240, 200, random)?;
     let of_photo = calls::quantize(alloc, &photo).ok()??;
     let noise = pictures::noise::<P>(alloc, 16, 16, random)?;
@@ -77,13 +88,18 @@ fn small<P: Opaque>(
 }
 
 /// Matches a picture in one way to a table that was made of a picture.
-fn match_made<P: Opaque>(
+fn match_made<P>(
     alloc: Global,
     table: &ColorTable,
     picture: &Raster<P>,
     how: Way,
     digest: &mut Digest,
-) -> Option<()> {
+) -> Option<()>
+where
+    P: Opaque,
+    Ch8: From<P::Chan>,
+    P::Gamma: Gamma<Ch8>,
+{
     let image = matched(alloc, table, picture, how)?;
     if digest.sums_errors() {
         return errors::add(alloc, picture, table, &image, digest);
@@ -93,24 +109,34 @@ fn match_made<P: Opaque>(
 }
 
 /// Matches a picture to a table that was set.
-fn match_picture<P: Opaque>(
+fn match_picture<P>(
     alloc: Global,
     table: &ColorTable,
     picture: &Raster<P>,
     digest: &mut Digest,
-) -> Option<()> {
+) -> Option<()>
+where
+    P: Opaque,
+    Ch8: From<P::Chan>,
+    P::Gamma: Gamma<Ch8>,
+{
     let image = matched(alloc, table, picture, Way::Nearest)?;
     digest.add_indices(&image);
     Some(())
 }
 
 /// Returns the indices of a picture, matched in one way.
-fn matched<P: Opaque>(
+fn matched<P>(
     alloc: Global,
     table: &ColorTable,
     picture: &Raster<P>,
     how: Way,
-) -> Option<Raster<Gray8>> {
+) -> Option<Raster<Gray8>>
+where
+    P: Opaque,
+    Ch8: From<P::Chan>,
+    P::Gamma: Gamma<Ch8>,
+{
     match how {
         Way::Nearest => table.map_indexed(alloc, picture).ok()?,
         Way::ByAlpha => table.map_indexed_alpha(alloc, picture, 128, 0).ok()?,
@@ -128,13 +154,18 @@ fn gray_table(alloc: Global) -> Option<ColorTable> {
 }
 
 /// Matches small noise to grays.
-fn grays<P: Opaque>(
+fn grays<P>(
     alloc: Global,
     side: u32,
     size: Size,
     random: &mut Random,
     digest: &mut Digest,
-) -> Option<()> {
+) -> Option<()>
+where
+    P: Opaque,
+    Ch8: From<P::Chan>,
+    P::Gamma: Gamma<Ch8>,
+{
     let table = gray_table(alloc)?;
     for _ in 0..count_of(side, size) {
         let noise = pictures::noise::<P>(alloc, side, side, random)?;
@@ -144,12 +175,12 @@ fn grays<P: Opaque>(
 }
 
 /// Matches photographs to grays.
-fn gray_photo<P: Opaque>(
-    alloc: Global,
-    size: Size,
-    random: &mut Random,
-    digest: &mut Digest,
-) -> Option<()> {
+fn gray_photo<P>(alloc: Global, size: Size, random: &mut Random, digest: &mut Digest) -> Option<()>
+where
+    P: Opaque,
+    Ch8: From<P::Chan>,
+    P::Gamma: Gamma<Ch8>,
+{
     let table = gray_table(alloc)?;
     for _ in 0..size.times(4) {
         let photo = pictures::photo::<P>(alloc, 200, 200, random)?;
@@ -159,24 +190,24 @@ fn gray_photo<P: Opaque>(
 }
 
 /// Matches noise to grays.
-fn gray_noise<P: Opaque>(
-    alloc: Global,
-    size: Size,
-    random: &mut Random,
-    digest: &mut Digest,
-) -> Option<()> {
+fn gray_noise<P>(alloc: Global, size: Size, random: &mut Random, digest: &mut Digest) -> Option<()>
+where
+    P: Opaque,
+    Ch8: From<P::Chan>,
+    P::Gamma: Gamma<Ch8>,
+{
     let table = gray_table(alloc)?;
     let noise = pictures::noise::<P>(alloc, size.of(256), size.of(256), random)?;
     match_picture(alloc, &table, &noise, digest)
 }
 
 /// Matches a dark picture to a table of sixteen colors and 240 that are nearly black.
-fn dark<P: Opaque>(
-    alloc: Global,
-    size: Size,
-    random: &mut Random,
-    digest: &mut Digest,
-) -> Option<()> {
+fn dark<P>(alloc: Global, size: Size, random: &mut Random, digest: &mut Digest) -> Option<()>
+where
+    P: Opaque,
+    Ch8: From<P::Chan>,
+    P::Gamma: Gamma<Ch8>,
+{
     let mut table = ColorTable::new(alloc, 256, color_of(0, 0, 0)).ok()?;
     for clr in pictures::colors::<SRgb8>(alloc, 16, random)?.iter() {
         table.set_entry(*clr);

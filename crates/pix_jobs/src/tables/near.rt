@@ -6,17 +6,23 @@ use crate::pictures::{self, Opaque, color_of};
 use crate::random::Random;
 use crate::size::Size;
 use pix::ColorTable;
+use pix::chan::{Ch8, Gamma};
 use std::alloc::Global;
 
 /// Indexes photographs by tables of a threshold, or of the next greater one by which the table has
 /// room for all colors.
-pub(crate) fn run<P: Opaque>(
+pub(crate) fn run<P>(
     alloc: Global,
     least: u8,
     size: Size,
     random: &mut Random,
     digest: &mut Digest,
-) -> Option<()> {
+) -> Option<()>
+where
+    P: Opaque,
+    Ch8: From<P::Chan>,
+    P::Gamma: Gamma<Ch8>,
+{
     for _ in 0..size.times(4) {
         let photo = pictures::photo::<P>(alloc, 240, 200, random)?;
         for more in 0..16_u8 {

@@ -6,6 +6,7 @@ use crate::pictures::{self, Opaque};
 use crate::random::{Random, byte};
 use crate::size::Size;
 use crate::{calls, errors};
+use pix::chan::{Ch8, Gamma};
 use pix::{ColorTable, Raster};
 use std::alloc::Global;
 
@@ -14,12 +15,17 @@ use std::alloc::Global;
 const INVERSE: u32 = 7834747;
 
 /// Adds the indices of a picture in a table, or their squared error.
-fn add_matched<P: Opaque>(
+fn add_matched<P>(
     alloc: Global,
     picture: &Raster<P>,
     table: &ColorTable,
     digest: &mut Digest,
-) -> Option<()> {
+) -> Option<()>
+where
+    P: Opaque,
+    Ch8: From<P::Chan>,
+    P::Gamma: Gamma<Ch8>,
+{
     let image = table.map_indexed(alloc, picture).ok()??;
     if digest.sums_errors() {
         return errors::add(alloc, picture, table, &image, digest);
@@ -29,13 +35,18 @@ fn add_matched<P: Opaque>(
 }
 
 /// Matches noise of 64 columns and some rows to a table of 256 colors.
-pub(crate) fn noise<P: Opaque>(
+pub(crate) fn noise<P>(
     alloc: Global,
     rows: u32,
     size: Size,
     random: &mut Random,
     digest: &mut Digest,
-) -> Option<()> {
+) -> Option<()>
+where
+    P: Opaque,
+    Ch8: From<P::Chan>,
+    P::Gamma: Gamma<Ch8>,
+{
     let sample = pictures::noise::<P>(alloc, 16, 16, random)?;
     let table = calls::quantize(alloc, &sample).ok()??;
     for _ in 0..size.times(64) {
@@ -46,25 +57,35 @@ pub(crate) fn noise<P: Opaque>(
 }
 
 /// Makes refined tables of so many colors of a photograph.
-pub(crate) fn refined<P: Opaque>(
+pub(crate) fn refined<P>(
     alloc: Global,
     limit: usize,
     size: Size,
     random: &mut Random,
     digest: &mut Digest,
-) -> Option<()> {
+) -> Option<()>
+where
+    P: Opaque,
+    Ch8: From<P::Chan>,
+    P::Gamma: Gamma<Ch8>,
+{
     let picture = pictures::photo::<P>(alloc, size.of(800), size.of(600), random)?;
     let table = calls::refined(alloc, &picture, limit).ok()??;
     add_matched(alloc, &picture, &table, digest)
 }
 
 /// Makes tables of pictures whose 256 colors all have the same place where colors are counted.
-pub(crate) fn one_place<P: Opaque>(
+pub(crate) fn one_place<P>(
     alloc: Global,
     size: Size,
     random: &mut Random,
     digest: &mut Digest,
-) -> Option<()> {
+) -> Option<()>
+where
+    P: Opaque,
+    Ch8: From<P::Chan>,
+    P::Gamma: Gamma<Ch8>,
+{
     for _ in 0..size.times(16) {
         let mut picture = Raster::<P>::with_clear(alloc, size.of(240), size.of(200)).ok()?;
         for pixel in picture.pixels_mut().iter_mut() {
