@@ -19,15 +19,6 @@ none_yet f size xs ys =
     let e : 0 ≡ size * 0 = omega arith in
     sym (over-nil f xs) ∙ ap (λ (n : ℕ). run f xs (take n ys)) e
 
--- a run of one element with each, at the block after k blocks
-pub next_color_block : {C A B : Type 0} (number : C → A) (f : A → B → A) (b size k n : ℕ) (xs ws new : List C) (y : B) → size ≡ b
-    → map number ws ≡ run f (map number xs) (take (size * k) (replicate n y)) → size * k + size ≤ length xs → size * k + size ≤ n
-    → map number new ≡ run f (map number (take (size * k + size - size * k) (drop (size * k) ws))) (replicate b y)
-    → map number (put_mid (size * k) (size * k + size - size * k) ws new) ≡ run f (map number xs) (take (size * (k + 1)) (replicate n y))
-next_color_block number f b size k n xs ws new y s e h i j =
-    next_same_block number f size k n xs ws new y e h i
-    (j ∙ ap (λ (m : ℕ). run f (map number (take (size * k + size - size * k) (drop (size * k) ws))) (replicate m y)) (sym s))
-
 -- two rows by the numbers of their pixels
 module _ {C D A B : Type 0} (number : C → A) (other : D → B) (f : A → B → A) (xs : List C) (ys : List D) where
   -- the pixel at i is made of the two that stand there
@@ -42,8 +33,3 @@ module _ {C D A B : Type 0} (number : C → A) (other : D → B) (f : A → B �
   pub whole_run : (i : ℕ) (ws : List C) → map number ws ≡ run f (map number xs) (take i (map other ys)) → i ≡ min (length xs) (length ys)
       → map number ws ≡ run f (map number xs) (map other ys)
   whole_run i ws e h = e ∙ over_both f i (map number xs) (map other ys) (omega (arith, length-map xs number, length-map ys other))
-
--- a row and a count that were made in one of several ways
-pub made_so : {C A B : Type 0} (number : C → A) (f : A → B → A) (xs : List A) (ys : List B) (row made : List C) (start n : ℕ) → row ≡ made → start ≡ n
-    → map number made ≡ run f xs (take n ys) → map number row ≡ run f xs (take start ys)
-made_so number f xs ys row made start n e h is = rw (e, h) is

@@ -1,5 +1,5 @@
 -- Four pixels of four channels in pixel order.
-use Rattle.std.proofs.Common.{◌≡◌, ℕ, zero, suc, ◌-◌, ◌≤◌, List, [], ◌∷◌, length, map, refl, ap, arith, replicate}
+use Rattle.std.proofs.Common.{◌≡◌, ℕ, zero, suc, ◌-◌, ◌≤◌, List, [], ◌∷◌, length, map, take, get_or, refl, ap, arith, replicate}
 use lib.Lanes.{Each1}
 use Rattle.pix_ops.specs.declared.ops.Op.{Op}
 use Rattle.pix_chan.specs.Runs.{over, triples}
@@ -13,10 +13,14 @@ use Rattle.pix_chan.proofs.Planes.{cons, four_times}
 use Rattle.pix_chan.proofs.Sixteen.{is_sixteen}
 use Rattle.pix_el.proofs.FourPlanes.{four_of, one_channel}
 
--- one color four times
-pub color_four_times : {C : Type 0} (number : C → ℕ) (a b c d : C) (color : List ℕ) → number a ∷ number b ∷ number c ∷ number d ∷ [] ≡ color
-    → by_fours (map number (a ∷ b ∷ c ∷ d ∷ a ∷ b ∷ c ∷ d ∷ a ∷ b ∷ c ∷ d ∷ a ∷ b ∷ c ∷ d ∷ [])) ≡ replicate 4 color
-color_four_times number a b c d color e = rw (← e) refl
+-- what stands for the first four of sixteen
+pub first_four : {C : Type 0} (v : C → ℕ) (xs : List C) (a b c d : C) → length xs ≡ 16 → a ≡ get_or xs 0 a → b ≡ get_or xs 1 b → c ≡ get_or xs 2 c → d ≡ get_or xs 3 d
+    → v a ∷ v b ∷ v c ∷ v d ∷ [] ≡ take 4 (map v xs)
+first_four v [] a b c d h e f g i = absurd (omega arith)
+first_four v (p ∷ []) a b c d h e f g i = absurd (omega arith)
+first_four v (p ∷ q ∷ []) a b c d h e f g i = absurd (omega arith)
+first_four v (p ∷ q ∷ r ∷ []) a b c d h e f g i = absurd (omega arith)
+first_four v (p ∷ q ∷ r ∷ s ∷ xs) a b c d h e f g i = cons (ap v e) (cons (ap v f) (cons (ap v g) (cons (ap v i) refl)))
 
 -- what is made of the last channels
 pub last_made : {A B : Type 0} (f : A → B) (cs : List A) → last_of_four (map f cs) ≡ map f (last_of_four cs)

@@ -176,8 +176,3 @@ module _ (max : ℕ) (op : Op) where
 pub first_is : (max : ℕ) (hues : Range ℕ) (op : Op) (b : Bool) → lies_in hues 0 ≡ b → (ts : List (ℕ × ℕ × ℕ)) (ds : List ℕ)
     → over (λ t d. if b then run_hue max op t d else run_composite max op t d) ts ds ≡ over (run_first max hues op) ts ds
 first_is max hues op b e ts ds = ap (λ (z : Bool). over (λ t d. if z then run_hue max op t d else run_composite max op t d) ts ds) (sym e)
-
--- the planes of one color
-pub color_are_planes : {C : Type 0} (max : ℕ) (number : C → ℕ) (a b c d : C) (color : List ℕ) → number a ∷ number b ∷ number c ∷ number d ∷ [] ≡ color
-    → ArePlanes max (replicate 16 color) (map number (replicate 16 a)) (map number (replicate 16 b)) (map number (replicate 16 c)) (map number (replicate 16 d))
-color_are_planes max number a b c d color e = rw (← e) (record { first = refl; second = refl; third = refl; fourth = refl })

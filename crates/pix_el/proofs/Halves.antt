@@ -24,13 +24,6 @@ halves_of n p h = same_pair refl (take_all n (drop n p) (omega (arith, length-dr
 pub map-halves : {A B : Type 0} (f : A → B) (n : ℕ) (p : List A) → length p ≡ n + n → map f (take n p) ++ map f (take n (drop n p)) ≡ map f p
 map-halves f n p h = sym (map-append f (take n p) (take n (drop n p))) ∙ ap (map f) (halves_of n p h)
 
--- two lists beside each other are their halves beside each other
-pub zip-halves : {M P A B : Type 0} (f : M → A) (g : P → B) (n : ℕ) (xs : List M) (ys : List P) → length xs ≡ n + n → length ys ≡ n + n
-    → zip (map f (take n xs)) (map g (take n ys)) ++ zip (map f (take n (drop n xs))) (map g (take n (drop n ys))) ≡ zip (map f xs) (map g ys)
-zip-halves f g n xs ys h i =
-    same_pair (part-zip f g 0 n xs ys) (part-zip f g n n xs ys)
-    ∙ halves_of n (zip (map f xs) (map g ys)) (length-beside f g xs ys ∙ omega (arith, h, i))
-
 -- a run of two lists one after the other is the runs of both
 over-append : {A B : Type 0} (f : B → A → A) (us vs : List B) (xs ys : List A) → length us ≡ length xs
     → over f (us ++ vs) (xs ++ ys) ≡ over f us xs ++ over f vs ys
@@ -58,20 +51,3 @@ halves_made v f n ys zs both p w x h i joined e k =
     ∙ sym (over-append f ys zs (map v first) (map v second) (i ∙ sym (length-map first v ∙ lf)))
     ∙ ap (λ l. over f l (map v first ++ map v second)) joined
     ∙ ap (over f both) (map-halves v n p h)
-
--- pixels of which each half is made of a half of the channels are made of all channels, where the
--- channels of pixels are read part by part
-pub pixels_put : {X C : Type 0} (f : X → List ℕ) (v : C → ℕ) (pixels_of : List ℕ → List (List ℕ)) (n k : ℕ) (p w x : List X) (c : List C)
-    → ((a b : List ℕ) → length a ≡ k → pixels_of (a ++ b) ≡ pixels_of a ++ pixels_of b)
-    → length p ≡ n + n → length w ≡ n → length x ≡ n → length c ≡ k + k
-    → map f w ≡ pixels_of (map v (take k c)) → map f x ≡ pixels_of (map v (take k (drop k c)))
-    → map f (put_mid n n (w ++ drop n p) x) ≡ pixels_of (map v c)
-pixels_put f v pixels_of n k p w x c joined h i j l e m =
-    let first = take k c in
-    let second = take k (drop k c) in
-    let is_half : length (map v first) ≡ k = length-map first v ∙ length-take-le k c (omega arith) in
-    ap (map f) (halves_put n p w x h i j)
-    ∙ map-append f w x
-    ∙ same_pair e m
-    ∙ sym (joined (map v first) (map v second) is_half)
-    ∙ ap pixels_of (sym (map-append v first second) ∙ ap (map v) (halves_of k c l))

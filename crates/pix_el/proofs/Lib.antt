@@ -23,5 +23,6 @@ pub mod Unchanged
 pub mod Replaced
 pub mod OneValue
 pub mod Masked
+pub mod Sources
 pub mod MaskedPlanes
 pub mod Unmultiplied

@@ -22,19 +22,6 @@ over-mapped f g xs [] = refl
 over-mapped f g [] (y ∷ ys) = refl
 over-mapped {C = C} f g (x ∷ xs) (y ∷ ys) = ap (λ (l : List C). f (g x) y ∷ l) (over-mapped f g xs ys)
 
--- a color composited through the values of mattes, by the mattes' own numbers
-pub by_values : {X : Type 0} (layout : Layout) (op : Op) (max : ℕ) → max ≡ layout.max → (numbers : X → List ℕ) (count : ℕ) (mattes : List X) (color : List ℕ) (dest : List (List ℕ))
-    → over (λ m. matted_composite layout op m color) (take count (map (λ x. channel max (numbers x) 0) mattes)) dest
-    ≡ over (λ matte. matted_composite layout op (matte_value layout matte) color) (take count (map numbers mattes)) dest
-by_values layout op max e numbers count mattes color dest =
-    let value = λ (m : List ℕ). channel max m 0 in
-    let made = λ (ms : List ℕ). over (λ m. matted_composite layout op m color) ms dest in
-    let listed = take count (map numbers mattes) in
-    ap (λ (l : List ℕ). made (take count l)) (map-mapped value numbers mattes)
-    ∙ ap made (take-map value count (map numbers mattes))
-    ∙ over-mapped (λ m. matted_composite layout op m color) value listed dest
-    ∙ ap (λ (x : ℕ). over (λ matte. matted_composite layout op (channel x matte 0) color) listed dest) e
-
 -- the first channels are all hues, or none is
 pub matted_first_is : (max : ℕ) (hues : Range ℕ) (b : Bool) → lies_in hues 0 ≡ b → (ms xs : List ℕ)
     → over (λ m x. if b then x else channel_product max x m) ms xs ≡ over (matted_first max hues) ms xs
@@ -48,7 +35,7 @@ mapped16 f xs d0 d1 d2 d3 d4 d5 d6 d7 d8 d9 d10 d11 d12 d13 d14 d15 h e0 e1 e2 e
     rw (e0, e1, e2, e3, e4, e5, e6, e7, e8, e9, e10, e11, e12, e13, e14, e15) (ap (map f) (whole16 xs d0 d1 d2 d3 d4 d5 d6 d7 d8 d9 d10 d11 d12 d13 d14 d15 h))
 
 -- a run that has gone on to n, and from there on by r more elements
-over_rest : {A B : Type 0} (f : B → A → A) (n r m : ℕ) (xs : List A) (ys : List B) → m ≡ n + r → n ≤ length ys
+pub over_rest : {A B : Type 0} (f : B → A → A) (n r m : ℕ) (xs : List A) (ys : List B) → m ≡ n + r → n ≤ length ys
     → take n (over f (take n ys) xs) ++ over f (take r (drop n ys)) (drop n (over f (take n ys) xs)) ≡ over f (take m ys) xs
 over_rest f zero r m xs ys e h =
     let q : m ≡ r = omega arith in
@@ -78,53 +65,3 @@ next_run {A = A} {B = B} number other f n r xs ws new ys e h i =
     ∙ ap (λ (l : List A). take n at ++ l) (append-nil (map number new) ∙ made)
     ∙ ap (λ (l : List A). take n l ++ over f (take r (drop n (map other ys))) (drop n l)) e
     ∙ over_rest f n r (n + r) (map number xs) (map other ys) refl (omega (arith, h, length-map ys other))
-
--- the same where the slice from n on is the whole rest
-pub last_run : {C D A B : Type 0} (number : C → A) (other : D → B) (f : B → A → A) (n : ℕ) (xs ws new : List C) (ys : List D)
-    → map number ws ≡ over f (take n (map other ys)) (map number xs) → n ≤ length ys
-    → map number new ≡ over f (map other (take (length ys - n) (drop n ys))) (map number (take (length ws - n) (drop n ws)))
-    → map number (put_mid n (length ws - n) ws new) ≡ over f (map other ys) (map number xs)
-last_run {B = B} number other f n xs ws new ys e h i =
-    let r = length ys - n in
-    let part = take r (drop n ys) in
-    let at = map number (take (length ws - n) (drop n ws)) in
-    let all : take r (map other part) ≡ map other part = take_all r (map other part) (omega (arith, length-map part other, length-take r (drop n ys), length-drop n ys)) in
-    next_run number other f n r xs ws new ys e h (i ∙ ap (λ (l : List B). over f l at) (sym all))
-    ∙ ap (λ (l : List B). over f l (map number xs)) (take_all (n + r) (map other ys) (omega (arith, h, length-map ys other)))
-
--- one color again and again
-replicated : {C A : Type 0} (color : A) (xs : List C) → map (λ _. color) xs ≡ replicate (length xs) color
-replicated color [] = refl
-replicated {A = A} color (x ∷ xs) = ap (λ (l : List A). color ∷ l) (replicated color xs)
-
--- a run of one color that continues in the slice from n on
-pub next_color : {C A B : Type 0} (number : C → A) (f : B → A → A) (n r : ℕ) (xs ws new : List C) (color : B)
-    → map number ws ≡ over f (take n (replicate (length xs) color)) (map number xs) → n ≤ length xs
-    → map number new ≡ over f (take r (replicate (length (take (length ws - n) (drop n ws))) color)) (map number (take (length ws - n) (drop n ws)))
-    → map number (put_mid n (length ws - n) ws new) ≡ over f (take (n + r) (replicate (length xs) color)) (map number xs)
-next_color {B = B} number f n r xs ws new color e h i =
-    let at = map number xs in
-    let rest = take (length ws - n) (drop n ws) in
-    let own = take (length xs - n) (drop n xs) in
-    let same : length ws ≡ length xs = sym (length-map ws number) ∙ ap length e ∙ length-run (λ x y. f y x) at (take n (replicate (length xs) color)) ∙ length-map xs number in
-    let long : length rest ≡ length own
-    = omega (arith, same, length-take (length ws - n) (drop n ws), length-drop n ws, length-take (length xs - n) (drop n xs), length-drop n xs) in
-    next_run number (λ _. color) f n r xs ws new xs
-    (e ∙ ap (λ (l : List B). over f (take n l) at) (sym (replicated color xs))) h
-    (i ∙ ap (λ (l : List B). over f (take r l) (map number rest)) (ap (λ (k : ℕ). replicate k color) long ∙ sym (replicated color own)))
-    ∙ ap (λ (l : List B). over f (take (n + r) l) at) (replicated color xs)
-
--- the same where the slice from n on is the whole rest
-pub last_color : {C A B : Type 0} (number : C → A) (f : B → A → A) (n : ℕ) (xs ws new : List C) (color : B)
-    → map number ws ≡ over f (take n (replicate (length xs) color)) (map number xs) → n ≤ length xs
-    → map number new ≡ map (f color) (map number (take (length ws - n) (drop n ws)))
-    → map number (put_mid n (length ws - n) ws new) ≡ map (f color) (map number xs)
-last_color {A = A} {B = B} number f n xs ws new color e h i =
-    let own = λ (x : A) (y : B). f y x in
-    let at = map number xs in
-    let rest = take (length ws - n) (drop n ws) in
-    let r = length rest in
-    let m = length xs in
-    let same : length ws ≡ m = sym (length-map ws number) ∙ ap length e ∙ length-run own at (take n (replicate m color)) ∙ length-map xs number in
-    next_color number f n r xs ws new color e h (i ∙ sym (over_color own r r color (map number rest) (omega (arith, length-map rest number)) (length-map rest number)))
-    ∙ over_color own (n + r) m color at (omega (arith, h, same, length-map xs number, length-take (length ws - n) (drop n ws), length-drop n ws)) (length-map xs number)

@@ -12,17 +12,6 @@ use Rattle.pix_el.specs.PixelComposite.{pixel_composite}
 use Rattle.pix_chan.proofs.Planes.{cons}
 use Rattle.pix_el.proofs.FourPlanes.{is_layout, one_channel}
 
-pub one_set : {A : Type 0} (p : List A) (a : A) → length p ≡ 1 → set p 0 a ≡ a ∷ []
-one_set [] a h = absurd (omega arith)
-one_set (w ∷ []) a h = refl
-one_set (w ∷ x ∷ p) a h = absurd (omega arith)
-
--- what is made of the one element of a list, whatever is named for a place past its end
-pub mapped1 : {A B : Type 0} (f : A → B) (xs : List A) (d : A) {r : B} → length xs ≡ 1 → r ≡ f (get_or xs 0 d) → r ∷ [] ≡ map f xs
-mapped1 f [] d h e = absurd (omega arith)
-mapped1 f (w ∷ []) d h e = ap (λ l. l ∷ []) e
-mapped1 f (w ∷ x ∷ p) d h e = absurd (omega arith)
-
 -- a layout of one channel, the alpha
 abbrev pub one_of : ℕ → Layout
 one_of max = record { max = max; count = 1; hues = record { start = 0; end = 0 }; alpha = 0 }
@@ -40,10 +29,6 @@ ones_composited max op [] (d ∷ ds) h p q = absurd (omega arith)
 ones_composited max op (s ∷ ss) [] h p q = absurd (omega arith)
 ones_composited max op (s ∷ ss) (d ∷ ds) h p q =
     cons (cons (one_channel max op s s d d p.0 q.0) refl) (ones_composited max op ss ds (omega arith) p.1 q.1)
-
--- one color again and again
-pub same_ones : {C : Type 0} (number : C → ℕ) (a : C) (color : List ℕ) → number a ∷ [] ≡ color → by_ones (map number (replicate 16 a)) ≡ replicate 16 color
-same_ones number a color e = ap (replicate 16) e
 
 -- the pixels of two lists of channels
 pub by_ones-joined : (a b : List ℕ) → by_ones (a ++ b) ≡ by_ones a ++ by_ones b

@@ -65,16 +65,16 @@ emptied_clear layout op laws alpha color dest none empties fc fd =
     (λ ch lt. get_or-replicate layout.count ch 0 0 lt ∙ rw (lies_in_none layout.hues ch none, clear ch lt, transparent)
     (sym (empties (channel layout.max dest ch) (alpha_of layout dest) (fd.at ch) (fd.at layout.alpha))))
 
--- clear pixels, each under the matte of its place
-pub over_emptied : {X : Type 0} (f : ℕ → List ℕ → List ℕ) (numbers : X → List ℕ) (v : List ℕ) (ms : List ℕ) (ps : List X)
-    → length ms ≡ length ps → ((k : ℕ) (p : X) → v ≡ f (get_or ms k 0) (numbers p))
-    → map (λ _. v) (map numbers ps) ≡ over f ms (map numbers ps)
+-- clear pixels, each under the source of its place
+pub over_emptied : {X : Type 0} (f : List ℕ → List ℕ → List ℕ) (numbers : X → List ℕ) (v : List ℕ) (ss : List (List ℕ)) (ps : List X)
+    → length ss ≡ length ps → ((k : ℕ) (p : X) → k < length ss → v ≡ f (get_or ss k []) (numbers p))
+    → map (λ _. v) (map numbers ps) ≡ over f ss (map numbers ps)
 over_emptied f numbers v [] [] e same = refl
 over_emptied f numbers v [] (p ∷ ps) e same = absurd (omega (arith, e))
-over_emptied f numbers v (m ∷ ms) [] e same = refl
-over_emptied f numbers v (m ∷ ms) (p ∷ ps) e same =
-    ap (λ (x : List ℕ). x ∷ map (λ _. v) (map numbers ps)) (same 0 p)
-    ∙ ap (λ (l : List (List ℕ)). f m (numbers p) ∷ l) (over_emptied f numbers v ms ps (omega (arith, e)) (λ k. same (suc k)))
+over_emptied f numbers v (s ∷ ss) [] e same = refl
+over_emptied f numbers v (s ∷ ss) (p ∷ ps) e same =
+    ap (λ (x : List ℕ). x ∷ map (λ _. v) (map numbers ps)) (same 0 p (omega arith))
+    ∙ ap (λ (l : List (List ℕ)). f s (numbers p) ∷ l) (over_emptied f numbers v ss ps (omega (arith, e)) (λ k q h. same (suc k) q (omega (arith, h))))
 
 -- a row of replaced pixels, as they lie in memory
 pub replaced_row : {D : Type 0} (n : D → List ℕ) (layout : Layout) (op : Op) (src : List D) (dest : List (List ℕ)) → Replaces layout op

@@ -34,11 +34,6 @@ pub is_two_of : (l : Layout) (max : ℕ) (hues : Range ℕ) (alpha : ℕ) → l 
     → l.count ≡ 2 → l.alpha ≡ 1 → l.hues.end ≡ 0 → hues.start ≡ 0 → l ≡ two_of max
 is_two_of l max hues alpha e f g h i = is_layout l (ap (λ (m : Layout). m.max) e) f (ap (λ (m : Layout). m.hues.start) e ∙ i) h g
 
--- one color sixteen times
-pub color_sixteen_times : {C : Type 0} (number : C → ℕ) (a b : C) (color : List ℕ) → number a ∷ number b ∷ [] ≡ color
-    → by_twos (both_in_turn (map number (replicate 16 a)) (map number (replicate 16 b))) ≡ replicate 16 color
-color_sixteen_times number a b color e = rw (← e) refl
-
 -- the alphas, each at both places of its pixel
 alphas_of : (n : ℕ) (ws xs : List ℕ) → length ws ≡ n → length xs ≡ n → both_in_turn xs xs ≡ last_of_two (both_in_turn ws xs)
 alphas_of zero [] [] h i = refl

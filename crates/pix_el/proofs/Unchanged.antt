@@ -109,23 +109,22 @@ module _ (layout : Layout) (op : Op) (laws : IsProduct fineness layout.max (chan
       (λ ch lt no. rw (none ch lt no, clear) keeps)
       (rw clear (keeps 0 (alpha_of layout dest) (omega arith) (fd.at layout.alpha)).1)
 
-  -- under any color through any matte
-  pub kept_always : (color dest : List ℕ) (matte : ℕ) → KeepsAll layout.max op → length dest ≡ layout.count → Fits layout.max dest
-      → dest ≡ matted_composite layout op matte color dest
-  kept_always color dest matte keeps long fd =
-      let source = matted_color layout matte color in
+  -- under any source
+  pub kept_always : (source dest : List ℕ) → KeepsAll layout.max op → length dest ≡ layout.count → Fits layout.max dest
+      → dest ≡ pixel_composite layout op source dest
+  kept_always source dest keeps long fd =
       kept_pixel layout op source dest laws.positive long fd
       (λ ch lt no. keeps (channel layout.max source ch) (alpha_of layout source))
       (keeps 0 (alpha_of layout source) 0 (alpha_of layout dest) (omega arith) (fd.at layout.alpha)).1
 
--- pixels that are unchanged, each under the matte of its place
-pub over_kept : {X : Type 0} (f : ℕ → List ℕ → List ℕ) (numbers : X → List ℕ) (count : ℕ) (ms : List ℕ) (ps : List X)
-    → ((k : ℕ) (p : X) → length (numbers p) ≡ count → numbers p ≡ f (get_or ms k 0) (numbers p))
+-- pixels that are unchanged, each under the source of its place
+pub over_kept : {X : Type 0} (f : List ℕ → List ℕ → List ℕ) (numbers : X → List ℕ) (count : ℕ) (ss : List (List ℕ)) (ps : List X)
+    → ((k : ℕ) (p : X) → k < length ss → length (numbers p) ≡ count → numbers p ≡ f (get_or ss k []) (numbers p))
     → ((k : ℕ) → k < length ps → length (get_or (map numbers ps) k []) ≡ count)
-    → map numbers ps ≡ over f ms (map numbers ps)
+    → map numbers ps ≡ over f ss (map numbers ps)
 over_kept f numbers count [] [] kept counted = refl
-over_kept f numbers count (m ∷ ms) [] kept counted = refl
+over_kept f numbers count (s ∷ ss) [] kept counted = refl
 over_kept f numbers count [] (p ∷ ps) kept counted = refl
-over_kept f numbers count (m ∷ ms) (p ∷ ps) kept counted =
-    ap (λ (l : List ℕ). l ∷ map numbers ps) (kept 0 p (counted 0 (omega arith)))
-    ∙ ap (λ (l : List (List ℕ)). f m (numbers p) ∷ l) (over_kept f numbers count ms ps (λ k. kept (suc k)) (λ k h. counted (suc k) (omega arith)))
+over_kept f numbers count (s ∷ ss) (p ∷ ps) kept counted =
+    ap (λ (l : List ℕ). l ∷ map numbers ps) (kept 0 p (omega arith) (counted 0 (omega arith)))
+    ∙ ap (λ (l : List (List ℕ)). f s (numbers p) ∷ l) (over_kept f numbers count ss ps (λ k q h. kept (suc k) q (omega (arith, h))) (λ k h. counted (suc k) (omega arith)))

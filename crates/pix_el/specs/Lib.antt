@@ -21,6 +21,7 @@ pub mod LightBlocks
 pub mod PixelComposite
 pub mod Stored
 pub mod Planes
+pub mod Source
 pub mod Premultiplied
 pub mod Transparent
 pub mod ExactPixel

@@ -4,7 +4,7 @@ ghost use Rattle.pix_chan.specs.Runs.{over};
 
 use crate::el::Pixel;
 use crate::model::ColorModel;
-use crate::planes::matted::is_wide;
+use crate::planes::runs::is_wide;
 use crate::stored::Stored;
 
 /// Writes one value in each place.

@@ -7,8 +7,9 @@
 //! bits through sixteen mattes. A pixel of one channel is its own alpha, so mattes go as they are
 //! in memory. Pixels through mattes use the same blocks (`masked.rt`).
 //!
-//! The blocks are chosen by the model (`runs.rt`, `masked.rt`), for a color through mattes also by
-//! the operator (`coverage.rt`). No contract of `rows.rt` depends on it.
+//! What a row is composited with is a `Source`, and each block takes any (`source.rt`). The blocks
+//! are chosen by the model, for a color through mattes also by the operator (`runs.rt`). No contract
+//! of `rows.rt` depends on it.
 ghost use Rattle.std.specs.Prelude.{◌≡◌, ◌≤◌, length, map, true};
 ghost use Rattle.pix_chan.specs.Runs.{over, triples};
 ghost use Rattle.pix_el.specs.Planes.{run_hue, run_first, matted_first};
@@ -23,14 +24,13 @@ pub(crate) mod alpha_x16;
 pub(crate) mod block;
 pub(crate) mod graya_x16;
 pub(crate) mod graya_x8;
-pub(crate) mod masked;
-pub(crate) mod matted;
 pub(crate) mod planes_x16;
 mod quarters;
 pub(crate) mod rgba_x16;
 pub(crate) mod rgba_x4;
 pub(crate) mod rgba_x8;
 pub(crate) mod runs;
+pub(crate) mod source;
 pub(crate) mod unchanged;
 
 /// Composites the hues at the same index of all four slices, one after the other. The shortest

@@ -14,11 +14,10 @@ ghost use Rattle.pix_el.specs.Planes.{Replaces};
 use crate::el::Pixel;
 use crate::filled::{clear_row, copy_row, write_all};
 use crate::planes::is_interleaved;
-use crate::planes::masked::{faded_runs, masked_runs};
-use crate::planes::matted::matted_runs;
-use crate::planes::runs::{color_runs, pixel_runs};
+use crate::planes::runs::largest_blocks;
+use crate::planes::source::{Faded, Masked, Matted, OneColor, Pixels};
 use crate::planes::unchanged::{clears, replaces};
-use crate::rest::{finish_color, finish_faded, finish_masked, finish_matted, finish_pixels};
+use crate::rest::finish;
 use crate::stored::{Coverage, Stored, establish_channels};
 use pix_chan::chan::{Linear, Premultiplied};
 use pix_ops::ops::Blend;
@@ -184,10 +183,11 @@ impl<P: Pixel<Alpha = Premultiplied, Gamma = Linear>, D: Stored<P>, O: Blend> Fi
         } else if clears::<O, P>() {
             clear_row::<P, D>(row);
         } else {
-            let clr = &self.clr;
-            let start = color_runs::<O, P, D>(row, clr);
-            if start < row.len() {
-                finish_color::<O, P, D>(&mut row[start..], clr, self.op);
+            let (clr, count) = (self.clr, row.len());
+            let source = OneColor { clr, count };
+            let start = largest_blocks::<O, P, D, OneColor<P>>(row, &source);
+            if start < count {
+                finish::<O, P, D, OneColor<P>>(&mut row[start..], &source, start, self.op);
             }
         }
     }
@@ -243,9 +243,10 @@ impl<P: Pixel<Alpha = Premultiplied, Gamma = Linear>, D: Stored<P>, O: Blend> Bl
         } else if clears::<O, P>() {
             clear_row::<P, D>(&mut row[..count]);
         } else {
-            let start = pixel_runs::<O, P, D, D>(row, src, count);
+            let (row, source) = (&mut row[..count], Pixels { src: &src[..count] });
+            let start = largest_blocks::<O, P, D, Pixels<'_, D>>(row, &source);
             if start < count {
-                finish_pixels::<O, P, D, D>(&mut row[start..], &src[start..], self.op);
+                finish::<O, P, D, Pixels<'_, D>>(&mut row[start..], &source, start, self.op);
             }
         }
     }
@@ -280,10 +281,11 @@ impl<
         if clears::<O, P>() {
             clear_row::<P, D>(&mut row[..count]);
         } else {
-            let start = matted_runs::<O, P, D, M>(row, src, &self.clr, count);
+            let (clr, mattes) = (self.clr, &src[..count]);
+            let (row, source) = (&mut row[..count], Matted { clr, mattes });
+            let start = largest_blocks::<O, P, D, Matted<'_, P, M>>(row, &source);
             if start < count {
-                let (rest, mattes) = (&mut row[start..], &src[start..]);
-                finish_matted::<O, P, D, M>(rest, mattes, &self.clr, self.op);
+                finish::<O, P, D, Matted<'_, P, M>>(&mut row[start..], &source, start, self.op);
             }
         }
     }
@@ -320,10 +322,11 @@ impl<
         if clears::<O, P>() {
             clear_row::<P, D>(&mut row[..count]);
         } else {
-            let start = masked_runs::<O, P, D, S, M>(row, src, mask, count);
+            let (src, mattes) = (&src[..count], &mask[..count]);
+            let (row, source) = (&mut row[..count], Masked { src, mattes });
+            let start = largest_blocks::<O, P, D, Masked<'_, S, M>>(row, &source);
             if start < count {
-                let (rest, sources) = (&mut row[start..], &src[start..]);
-                finish_masked::<O, P, D, S, M>(rest, sources, &mask[start..], self.op);
+                finish::<O, P, D, Masked<'_, S, M>>(&mut row[start..], &source, start, self.op);
             }
         }
     }
@@ -357,10 +360,11 @@ impl<P: Pixel<Alpha = Premultiplied, Gamma = Linear>, D: Stored<P>, S: Stored<P>
         if clears::<O, P>() {
             clear_row::<P, D>(&mut row[..count]);
         } else {
-            let start = faded_runs::<O, P, D, S>(row, src, self.alpha, count);
+            let (src, alpha) = (&src[..count], self.alpha);
+            let (row, source) = (&mut row[..count], Faded { src, alpha });
+            let start = largest_blocks::<O, P, D, Faded<'_, S, P::Chan>>(row, &source);
             if start < count {
-                let (rest, sources) = (&mut row[start..], &src[start..]);
-                finish_faded::<O, P, D, S>(rest, sources, self.op, self.alpha);
+                finish::<O, P, D, Faded<'_, S, P::Chan>>(&mut row[start..], &source, start, self.op);
             }
         }
     }

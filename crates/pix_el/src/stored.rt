@@ -58,7 +58,7 @@ pub trait Coverage<C: Channel>: Copy {
 
 /// Copies channels, one by one. Condition: there are as many of both.
 #[inline(always)]
-fn copy_channels<C: Channel>(from: &[C], to: &mut [C])
+pub(crate) fn copy_channels<C: Channel>(from: &[C], to: &mut [C])
     requires { length to.old ≡ length from.now }
     ensures { to.new ≡ from.now }
 {

@@ -1,25 +1,16 @@
 //! Pixels of one channel, their alpha, sixteen at a time: a run of channels, where each is its own
 //! alpha.
-ghost use Rattle.std.specs.Prelude.{◌≡◌, [], ◌∷◌, length, map, refl};
+ghost use Rattle.std.specs.Prelude.{◌≡◌, ◌≤◌, ◌+◌, length, map, take, drop, refl};
 ghost use Rattle.pix_chan.specs.Runs.{over};
 ghost use Rattle.pix_el.specs.Planes.{by_ones};
-ghost use Rattle.pix_el.specs.PixelComposite.{pixel_composite, matted_color};
+ghost use Rattle.pix_el.specs.PixelComposite.{matted_color};
 
 use crate::el::Pixel;
 use crate::planes::block::Block;
-use crate::planes::matted::matte_values;
-use crate::stored::{Coverage, Stored};
+use crate::planes::source::Source;
+use crate::stored::Stored;
 use pix_chan::chan::Channel;
 use pix_ops::ops::Blend;
-
-/// Returns the one channel of a pixel.
-#[inline(always)]
-fn one_channel<P: Pixel>(p: &P) -> P::Chan
-    requires { P.layout.count ≡ 1 }
-    ensures { P.Chan.number result ∷ [] ≡ P.numbers p.now }
-{
-    p.channels()[0]
-}
 
 /// Returns the channels of sixteen pixels.
 #[inline(always)]
@@ -59,24 +50,24 @@ fn masked_channels<P: Pixel>(mut to: [P::Chan; 16], mattes: &[P::Chan]) -> [P::C
     to
 }
 
-/// Composites the pixels of these channels with those of `dst`. The alphas are read before a
-/// channel is written.
+/// Returns the channels of the sixteen pixels that a source gives from `at` on.
 ///
 /// Condition: the one channel is the alpha.
 #[inline(always)]
-fn composite_sixteen<O: Blend, P: Pixel, D: Stored<P>>(dst: &mut [D], src: [P::Chan; 16])
+fn sixteen_given<P: Pixel, S: Source<P>>(src: &S, at: usize) -> [P::Chan; 16]
     requires count { P.layout.count ≡ 1 }
     requires alpha { P.layout.alpha ≡ 0 }
     requires no_hue { P.layout.hues.end ≡ 0 }
-    requires size { length dst.old ≡ 16 }
-    ensures { map D.reads dst.new ≡ over (pixel_composite P.layout O.op)
-        (by_ones (map P.Chan.number src)) (map D.reads dst.old) }
+    requires has { at + 16 ≤ length (S.gives src.now) }
+    ensures { by_ones (map P.Chan.number result) ≡ take 16 (drop at (S.gives src.now)) }
 {
-    let mut to = sixteen_pixels::<P, D>(dst);
-    let da1 = P::Chan::complement16(to);
-    let sa1 = P::Chan::complement16(src);
-    O::composite_block(&mut to, &da1, &src, &sa1);
-    put_sixteen_pixels::<P, D>(dst, to);
+    let mut own = [P::Chan::MIN; 16];
+    src.channels(at, 16, &mut own);
+    if S::has_values() {
+        masked_channels::<P>(own, &src.values(at, 16))
+    } else {
+        own
+    }
 }
 
 /// Pixels of an alpha alone, sixteen at a time.
@@ -93,35 +84,14 @@ impl<P: Pixel> Block<P> for AlphaX16 {
 
     ghost some = { refl };
 
+    /// The alphas are read before a channel is written.
     #[inline(always)]
-    fn composite<O: Blend, D: Stored<P>, S: Stored<P>>(dst: &mut [D], src: &[S]) {
-        composite_sixteen::<O, P, D>(dst, sixteen_pixels::<P, S>(src));
-    }
-
-    #[inline(always)]
-    fn color<O: Blend, D: Stored<P>>(dst: &mut [D], clr: &P) {
-        composite_sixteen::<O, P, D>(dst, [one_channel(clr); 16]);
-    }
-
-    #[inline(always)]
-    fn matted<O: Blend, D: Stored<P>, M: Coverage<P::Chan>>(dst: &mut [D], src: &[M], clr: &P) {
-        let colors = masked_channels::<P>([one_channel(clr); 16], &matte_values(src));
-        composite_sixteen::<O, P, D>(dst, colors);
-    }
-
-    #[inline(always)]
-    fn masked<O: Blend, D: Stored<P>, S: Stored<P>, M: Coverage<P::Chan>>(
-        dst: &mut [D],
-        src: &[S],
-        mattes: &[M],
-    ) {
-        let colors = masked_channels::<P>(sixteen_pixels::<P, S>(src), &matte_values(mattes));
-        composite_sixteen::<O, P, D>(dst, colors);
-    }
-
-    #[inline(always)]
-    fn faded<O: Blend, D: Stored<P>, S: Stored<P>>(dst: &mut [D], src: &[S], alpha: P::Chan) {
-        let colors = masked_channels::<P>(sixteen_pixels::<P, S>(src), &[alpha; 16]);
-        composite_sixteen::<O, P, D>(dst, colors);
+    fn composite<O: Blend, D: Stored<P>, S: Source<P>>(dst: &mut [D], src: &S, at: usize) {
+        let source = sixteen_given::<P, S>(src, at);
+        let mut to = sixteen_pixels::<P, D>(dst);
+        let da1 = P::Chan::complement16(to);
+        let sa1 = P::Chan::complement16(source);
+        O::composite_block(&mut to, &da1, &source, &sa1);
+        put_sixteen_pixels::<P, D>(dst, to);
     }
 }

@@ -1,28 +1,17 @@
 //! Pixels of two channels without a hue, as they are in memory: sixteen pixels are thirty-two
 //! channels, pixel by pixel.
-ghost use Rattle.std.specs.Prelude.{◌≡◌, ◌∷◌, [], length, map, refl, replicate};
+ghost use Rattle.std.specs.Prelude.{◌≡◌, ◌≤◌, ◌+◌, length, map, take, drop, refl};
 ghost use Rattle.pix_chan.specs.Planes.{both_in_turn};
 ghost use Rattle.pix_chan.specs.Runs.{over};
 ghost use Rattle.pix_el.specs.Planes.{by_twos};
-ghost use Rattle.pix_el.specs.PixelComposite.{pixel_composite, matted_color};
+ghost use Rattle.pix_el.specs.PixelComposite.{matted_color};
 
 use crate::el::Pixel;
 use crate::planes::block::Block;
-use crate::planes::matted::matte_values;
-use crate::planes::rgba_x8::joined;
-use crate::stored::{Coverage, Stored};
+use crate::planes::source::{Source, joined};
+use crate::stored::Stored;
 use pix_chan::chan::Channel;
 use pix_ops::ops::Blend;
-
-/// Returns the two channels of a pixel.
-#[inline(always)]
-pub(super) fn two_channels<P: Pixel>(p: &P) -> (P::Chan, P::Chan)
-    requires { P.layout.count ≡ 2 }
-    ensures { P.Chan.number result.0 ∷ P.Chan.number result.1 ∷ [] ≡ P.numbers p.now }
-{
-    let c = p.channels();
-    (c[0], c[1])
-}
 
 /// Returns the channels of sixteen pixels, pixel by pixel.
 #[inline(always)]
@@ -45,25 +34,12 @@ fn in_turn<C: Channel>(one: [C; 16], two: [C; 16]) -> [C; 32]
     joined(a, b)
 }
 
-/// Returns the channels of sixteen pixels of one color, pixel by pixel.
-#[inline(always)]
-fn sixteen_times<P: Pixel>(clr: &P) -> [P::Chan; 32]
-    requires { P.layout.count ≡ 2 }
-    ensures { by_twos (map P.Chan.number result) ≡ replicate 16 (P.numbers clr.now) }
-{
-    let (a, b) = two_channels(clr);
-    in_turn([a; 16], [b; 16])
-}
-
 /// Returns the channels of sixteen pixels, each pixel multiplied by the matte value of the same
 /// index.
 ///
 /// Condition: the alpha is the second channel, and there is no hue.
 #[inline(always)]
-fn masked_channels<P: Pixel, const CALLER: usize>(
-    mut to: [P::Chan; 32],
-    values: [P::Chan; 16],
-) -> [P::Chan; 32]
+fn masked_channels<P: Pixel>(mut to: [P::Chan; 32], values: [P::Chan; 16]) -> [P::Chan; 32]
     requires count { P.layout.count ≡ 2 }
     requires alpha { P.layout.alpha ≡ 1 }
     requires no_hue { P.layout.hues.end ≡ 0 }
@@ -74,28 +50,24 @@ fn masked_channels<P: Pixel, const CALLER: usize>(
     to
 }
 
-/// Composites the sixteen pixels of these channels with those of `dst`. At each index the alphas
-/// are those of its own pixel. Each `CALLER` has a copy of its own, since LLVM inlines a function
-/// that is called once.
+/// Returns the channels of the sixteen pixels that a source gives from `at` on, pixel by pixel.
 ///
 /// Condition: the alpha is the second channel, and there is no hue.
 #[inline(always)]
-fn composite_sixteen<O: Blend, P: Pixel, D: Stored<P>, const CALLER: usize>(
-    dst: &mut [D],
-    src: [P::Chan; 32],
-)
+fn sixteen_given<P: Pixel, S: Source<P>>(src: &S, at: usize) -> [P::Chan; 32]
     requires count { P.layout.count ≡ 2 }
     requires alpha { P.layout.alpha ≡ 1 }
     requires no_hue { P.layout.hues.end ≡ 0 }
-    requires size { length dst.old ≡ 16 }
-    ensures { map D.reads dst.new ≡ over (pixel_composite P.layout O.op)
-        (by_twos (map P.Chan.number src)) (map D.reads dst.old) }
+    requires has { at + 16 ≤ length (S.gives src.now) }
+    ensures { by_twos (map P.Chan.number result) ≡ take 16 (drop at (S.gives src.now)) }
 {
-    let mut to = sixteen_pixels::<P, D>(dst);
-    let da1 = P::Chan::complement32(P::Chan::alphas16(to));
-    let sa1 = P::Chan::complement32(P::Chan::alphas16(src));
-    O::composite_block(&mut to, &da1, &src, &sa1);
-    D::store_channels(dst, &to);
+    let mut own = [P::Chan::MIN; 32];
+    src.channels(at, 16, &mut own);
+    if S::has_values() {
+        masked_channels::<P>(own, src.values(at, 16))
+    } else {
+        own
+    }
 }
 
 /// Pixels of two channels without a hue, sixteen at a time.
@@ -112,35 +84,14 @@ impl<P: Pixel> Block<P> for GrayaX16 {
 
     ghost some = { refl };
 
+    /// At each index the alphas are those of its own pixel.
     #[inline(always)]
-    fn composite<O: Blend, D: Stored<P>, S: Stored<P>>(dst: &mut [D], src: &[S]) {
-        composite_sixteen::<O, P, D, 0>(dst, sixteen_pixels::<P, S>(src));
-    }
-
-    #[inline(always)]
-    fn color<O: Blend, D: Stored<P>>(dst: &mut [D], clr: &P) {
-        composite_sixteen::<O, P, D, 1>(dst, sixteen_times(clr));
-    }
-
-    #[inline(always)]
-    fn matted<O: Blend, D: Stored<P>, M: Coverage<P::Chan>>(dst: &mut [D], src: &[M], clr: &P) {
-        let colors = masked_channels::<P, 2>(sixteen_times(clr), matte_values(src));
-        composite_sixteen::<O, P, D, 2>(dst, colors);
-    }
-
-    #[inline(always)]
-    fn masked<O: Blend, D: Stored<P>, S: Stored<P>, M: Coverage<P::Chan>>(
-        dst: &mut [D],
-        src: &[S],
-        mattes: &[M],
-    ) {
-        let colors = masked_channels::<P, 3>(sixteen_pixels::<P, S>(src), matte_values(mattes));
-        composite_sixteen::<O, P, D, 3>(dst, colors);
-    }
-
-    #[inline(always)]
-    fn faded<O: Blend, D: Stored<P>, S: Stored<P>>(dst: &mut [D], src: &[S], alpha: P::Chan) {
-        let colors = masked_channels::<P, 4>(sixteen_pixels::<P, S>(src), [alpha; 16]);
-        composite_sixteen::<O, P, D, 4>(dst, colors);
+    fn composite<O: Blend, D: Stored<P>, S: Source<P>>(dst: &mut [D], src: &S, at: usize) {
+        let source = sixteen_given::<P, S>(src, at);
+        let mut to = sixteen_pixels::<P, D>(dst);
+        let da1 = P::Chan::complement32(P::Chan::alphas16(to));
+        let sa1 = P::Chan::complement32(P::Chan::alphas16(source));
+        O::composite_block(&mut to, &da1, &source, &sa1);
+        D::store_channels(dst, &to);
     }
 }

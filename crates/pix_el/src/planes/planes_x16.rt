@@ -1,24 +1,22 @@
 //! Pixels of four channels by planes, sixteen at a time.
-ghost use Rattle.std.specs.Prelude.{◌≡◌, ◌≤◌, ℕ, List, length, map, refl};
+ghost use Rattle.std.specs.Prelude.{◌≡◌, ◌≤◌, ◌<◌, ◌+◌, ◌^◌, ℕ, List, length, map, take, drop, refl};
 ghost use Rattle.pix_chan.specs.Planes.{in_turn};
 ghost use Rattle.pix_chan.specs.Runs.{over};
 ghost use Rattle.pix_el.specs.Planes.{by_fours, ArePlanes};
-ghost use Rattle.pix_el.specs.PixelComposite.{pixel_composite, matted_color};
+ghost use Rattle.pix_el.specs.PixelComposite.{matted_color};
 
 use crate::el::Pixel;
 use crate::planes::block::Block;
-use crate::planes::matted::matte_values;
-use crate::planes::quarters::{put_quarters, quarters};
-use crate::planes::rgba_x4::four_channels;
+use crate::planes::quarters::{put_quarters, quarters, quarters_of};
+use crate::planes::source::Source;
 use crate::planes::{composite_first, scale_first};
-use crate::stored::{Coverage, Stored};
+use crate::stored::Stored;
 use pix_chan::chan::Channel;
 use pix_ops::ops::Blend;
 
-/// Returns the planes of sixteen pixels. Each `CALLER` has a copy of its own, since LLVM inlines a
-/// function that is called once.
+/// Returns the planes of sixteen pixels.
 #[inline(always)]
-fn planes<P: Pixel, D: Stored<P>, const CALLER: usize>(
+fn planes<P: Pixel, D: Stored<P>>(
     p: &[D],
 ) -> ([P::Chan; 16], [P::Chan; 16], [P::Chan; 16], [P::Chan; 16])
     requires count { P.layout.count ≡ 4 }
@@ -27,7 +25,7 @@ fn planes<P: Pixel, D: Stored<P>, const CALLER: usize>(
         (map P.Chan.number result.0) (map P.Chan.number result.1)
         (map P.Chan.number result.2) (map P.Chan.number result.3) }
 {
-    let (a, b, c, d) = quarters::<P, D, CALLER>(p);
+    let (a, b, c, d) = quarters::<P, D>(p);
     P::Chan::split4(a, b, c, d)
 }
 
@@ -50,45 +48,13 @@ fn put_planes<P: Pixel, D: Stored<P>>(
     put_quarters::<P, D>(p, a, b, c, d);
 }
 
-/// Composites the sixteen pixels of these planes with those of `dst`. All alphas are read before a
-/// plane is written.
-///
-/// Condition: the alpha is the last channel, and only the first may be a hue.
-#[inline(always)]
-fn composite_sixteen<O: Blend, P: Pixel, D: Stored<P>, const CALLER: usize>(
-    dst: &mut [D],
-    one: [P::Chan; 16],
-    two: [P::Chan; 16],
-    three: [P::Chan; 16],
-    four: [P::Chan; 16],
-)
-    requires count { P.layout.count ≡ 4 }
-    requires alpha { P.layout.alpha ≡ 3 }
-    requires hue { P.layout.hues.end ≤ 1 }
-    requires size { length dst.old ≡ 16 }
-    ensures { (pixels : List (List ℕ))
-        → ArePlanes P.Chan.max pixels (map P.Chan.number one) (map P.Chan.number two)
-        (map P.Chan.number three) (map P.Chan.number four)
-        → map D.reads dst.new ≡
-        over (pixel_composite P.layout O.op) pixels (map D.reads dst.old) }
-{
-    let (mut to_one, mut to_two, mut to_three, mut to_four) = planes::<P, D, CALLER>(dst);
-    let da1 = P::Chan::complement16(to_four);
-    let sa1 = P::Chan::complement16(four);
-    composite_first::<O, P::Model, P::Chan>(&mut to_one, &da1, &one, &sa1);
-    O::composite_block(&mut to_two, &da1, &two, &sa1);
-    O::composite_block(&mut to_three, &da1, &three, &sa1);
-    O::composite_block(&mut to_four, &da1, &four, &sa1);
-    put_planes::<P, D>(dst, to_one, to_two, to_three, to_four);
-}
-
 /// Returns the planes of sixteen pixels, each pixel multiplied by the matte value of the same
-/// index. Each `CALLER` of each operator has a copy of its own, since LLVM inlines a large function
-/// only where it is called once.
+/// index. Each source of each operator has code of its own, since LLVM inlines a large function only
+/// where it is called once.
 ///
 /// Condition: the alpha is the last channel, and only the first may be a hue.
 #[inline(always)]
-fn masked_channels<O: Blend, P: Pixel, const CALLER: usize>(
+fn masked_channels<O: Blend, P: Pixel, S: Source<P>>(
     mut one: [P::Chan; 16],
     mut two: [P::Chan; 16],
     mut three: [P::Chan; 16],
@@ -112,6 +78,32 @@ fn masked_channels<O: Blend, P: Pixel, const CALLER: usize>(
     (one, two, three, four)
 }
 
+/// Returns the planes of the sixteen pixels that a source gives from `at` on.
+///
+/// Condition: the alpha is the last channel, and only the first may be a hue.
+#[inline(always)]
+fn planes_given<O: Blend, P: Pixel, S: Source<P>>(
+    src: &S,
+    at: usize,
+) -> ([P::Chan; 16], [P::Chan; 16], [P::Chan; 16], [P::Chan; 16])
+    requires count { P.layout.count ≡ 4 }
+    requires alpha { P.layout.alpha ≡ 3 }
+    requires hue { P.layout.hues.end ≤ 1 }
+    requires has { at + 16 ≤ length (S.gives src.now) }
+    requires fits { at + 16 < 2 ^ 64 }
+    ensures { ArePlanes P.Chan.max (take 16 (drop at (S.gives src.now)))
+        (map P.Chan.number result.0) (map P.Chan.number result.1)
+        (map P.Chan.number result.2) (map P.Chan.number result.3) }
+{
+    let (a, b, c, d) = quarters_of::<P, S>(src, at);
+    let (one, two, three, four) = P::Chan::split4(a, b, c, d);
+    if S::has_values() {
+        masked_channels::<O, P, S>(one, two, three, four, &src.values(at, 16))
+    } else {
+        (one, two, three, four)
+    }
+}
+
 /// Pixels of four channels of which only the first may be a hue, sixteen at a time.
 pub(crate) struct PlanesX16 {}
 
@@ -126,43 +118,17 @@ impl<P: Pixel> Block<P> for PlanesX16 {
 
     ghost some = { refl };
 
+    /// All alphas are read before a plane is written.
     #[inline(always)]
-    fn composite<O: Blend, D: Stored<P>, S: Stored<P>>(dst: &mut [D], src: &[S]) {
-        let (one, two, three, four) = planes::<P, S, 2>(src);
-        composite_sixteen::<O, P, D, 0>(dst, one, two, three, four);
-    }
-
-    #[inline(always)]
-    fn color<O: Blend, D: Stored<P>>(dst: &mut [D], clr: &P) {
-        let (a, b, c, d) = four_channels(clr);
-        composite_sixteen::<O, P, D, 1>(dst, [a; 16], [b; 16], [c; 16], [d; 16]);
-    }
-
-    #[inline(always)]
-    fn matted<O: Blend, D: Stored<P>, M: Coverage<P::Chan>>(dst: &mut [D], src: &[M], clr: &P) {
-        let (a, b, c, d) = four_channels(clr);
-        let mattes = matte_values(src);
-        let (one, two, three, four) = masked_channels::<O, P, 3>(
-            [a; 16], [b; 16], [c; 16], [d; 16], &mattes,
-        );
-        composite_sixteen::<O, P, D, 3>(dst, one, two, three, four);
-    }
-
-    #[inline(always)]
-    fn masked<O: Blend, D: Stored<P>, S: Stored<P>, M: Coverage<P::Chan>>(
-        dst: &mut [D],
-        src: &[S],
-        mattes: &[M],
-    ) {
-        let (a, b, c, d) = planes::<P, S, 4>(src);
-        let (one, two, three, four) = masked_channels::<O, P, 4>(a, b, c, d, &matte_values(mattes));
-        composite_sixteen::<O, P, D, 4>(dst, one, two, three, four);
-    }
-
-    #[inline(always)]
-    fn faded<O: Blend, D: Stored<P>, S: Stored<P>>(dst: &mut [D], src: &[S], alpha: P::Chan) {
-        let (a, b, c, d) = planes::<P, S, 5>(src);
-        let (one, two, three, four) = masked_channels::<O, P, 5>(a, b, c, d, &[alpha; 16]);
-        composite_sixteen::<O, P, D, 5>(dst, one, two, three, four);
+    fn composite<O: Blend, D: Stored<P>, S: Source<P>>(dst: &mut [D], src: &S, at: usize) {
+        let (one, two, three, four) = planes_given::<O, P, S>(src, at);
+        let (mut to_one, mut to_two, mut to_three, mut to_four) = planes::<P, D>(dst);
+        let da1 = P::Chan::complement16(to_four);
+        let sa1 = P::Chan::complement16(four);
+        composite_first::<O, P::Model, P::Chan>(&mut to_one, &da1, &one, &sa1);
+        O::composite_block(&mut to_two, &da1, &two, &sa1);
+        O::composite_block(&mut to_three, &da1, &three, &sa1);
+        O::composite_block(&mut to_four, &da1, &four, &sa1);
+        put_planes::<P, D>(dst, to_one, to_two, to_three, to_four);
     }
 }

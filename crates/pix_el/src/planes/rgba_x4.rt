@@ -1,27 +1,16 @@
 //! Pixels of four channels without a hue, four at a time and with no planes: sixteen channels,
 //! pixel by pixel.
-ghost use Rattle.std.specs.Prelude.{◌≡◌, [], ◌∷◌, length, map, replicate, refl};
+ghost use Rattle.std.specs.Prelude.{◌≡◌, ◌≤◌, ◌+◌, length, map, take, drop, refl};
 ghost use Rattle.pix_chan.specs.Runs.{over};
 ghost use Rattle.pix_el.specs.Planes.{by_fours, premultiplied_four};
-ghost use Rattle.pix_el.specs.PixelComposite.{pixel_composite, matted_color};
+ghost use Rattle.pix_el.specs.PixelComposite.{matted_color};
 
 use crate::el::Pixel;
 use crate::planes::block::Block;
-use crate::planes::matted::four_values;
-use crate::stored::{Coverage, Stored};
+use crate::planes::source::Source;
+use crate::stored::Stored;
 use pix_chan::chan::Channel;
 use pix_ops::ops::Blend;
-
-/// Returns the four channels of a pixel.
-#[inline(always)]
-pub(super) fn four_channels<P: Pixel>(p: &P) -> (P::Chan, P::Chan, P::Chan, P::Chan)
-    requires { P.layout.count ≡ 4 }
-    ensures { P.Chan.number result.0 ∷ P.Chan.number result.1
-        ∷ P.Chan.number result.2 ∷ P.Chan.number result.3 ∷ [] ≡ P.numbers p.now }
-{
-    let c = p.channels();
-    (c[0], c[1], c[2], c[3])
-}
 
 /// Returns the channels of four pixels, pixel by pixel.
 #[inline(always)]
@@ -33,16 +22,6 @@ pub(crate) fn four_pixels<P: Pixel, D: Stored<P>>(p: &[D]) -> [P::Chan; 16]
     let mut own = [P::Chan::MIN; 16];
     D::load_channels(p, &mut own);
     own
-}
-
-/// Returns the channels of four pixels of one color, pixel by pixel.
-#[inline(always)]
-fn four_times<P: Pixel>(clr: &P) -> [P::Chan; 16]
-    requires { P.layout.count ≡ 4 }
-    ensures { by_fours (map P.Chan.number result) ≡ replicate 4 (P.numbers clr.now) }
-{
-    let (a, b, c, d) = four_channels(clr);
-    [a, b, c, d, a, b, c, d, a, b, c, d, a, b, c, d]
 }
 
 /// Writes four pixels from their channels.
@@ -57,16 +36,16 @@ pub(crate) fn put_four_pixels<P: Pixel, D: Stored<P>>(p: &mut [D], c: [P::Chan; 
 }
 
 /// Returns the channels of four pixels, each pixel multiplied by the matte value of the same index.
+/// The other values may be anything.
 ///
 /// Condition: the alpha is the last channel, and none is a hue.
 #[inline(always)]
-fn masked_channels<P: Pixel>(mut to: [P::Chan; 16], values: &[P::Chan]) -> [P::Chan; 16]
+fn masked_channels<P: Pixel>(mut to: [P::Chan; 16], values: [P::Chan; 16]) -> [P::Chan; 16]
     requires count { P.layout.count ≡ 4 }
     requires alpha { P.layout.alpha ≡ 3 }
     requires no_hue { P.layout.hues.end ≡ 0 }
-    requires whole { length values.now ≡ 4 }
     ensures { by_fours (map P.Chan.number result) ≡ over (matted_color P.layout)
-        (map P.Chan.number values.now) (by_fours (map P.Chan.number to)) }
+        (take 4 (map P.Chan.number values)) (by_fours (map P.Chan.number to)) }
 {
     let (a, b, c, d) = (values[0], values[1], values[2], values[3]);
     let by = [a, a, a, a, b, b, b, b, c, c, c, c, d, d, d, d];
@@ -74,28 +53,24 @@ fn masked_channels<P: Pixel>(mut to: [P::Chan; 16], values: &[P::Chan]) -> [P::C
     to
 }
 
-/// Composites the four pixels of these channels with those of `dst`. At each index the alphas are
-/// those of its own pixel. Each `CALLER` has a copy of its own, since LLVM inlines a function that
-/// is called once.
+/// Returns the channels of the four pixels that a source gives from `at` on, pixel by pixel.
 ///
 /// Condition: the alpha is the last channel, and none is a hue.
 #[inline(always)]
-fn composite_four<O: Blend, P: Pixel, D: Stored<P>, const CALLER: usize>(
-    dst: &mut [D],
-    src: [P::Chan; 16],
-)
+fn four_given<P: Pixel, S: Source<P>>(src: &S, at: usize) -> [P::Chan; 16]
     requires count { P.layout.count ≡ 4 }
     requires alpha { P.layout.alpha ≡ 3 }
     requires no_hue { P.layout.hues.end ≡ 0 }
-    requires size { length dst.old ≡ 4 }
-    ensures { map D.reads dst.new ≡ over (pixel_composite P.layout O.op)
-        (by_fours (map P.Chan.number src)) (map D.reads dst.old) }
+    requires has { at + 4 ≤ length (S.gives src.now) }
+    ensures { by_fours (map P.Chan.number result) ≡ take 4 (drop at (S.gives src.now)) }
 {
-    let mut to = four_pixels::<P, D>(dst);
-    let da1 = P::Chan::complement16(P::Chan::alphas4(to));
-    let sa1 = P::Chan::complement16(P::Chan::alphas4(src));
-    O::composite_block(&mut to, &da1, &src, &sa1);
-    put_four_pixels::<P, D>(dst, to);
+    let mut own = [P::Chan::MIN; 16];
+    src.channels(at, 4, &mut own);
+    if S::has_values() {
+        masked_channels::<P>(own, src.values(at, 4))
+    } else {
+        own
+    }
 }
 
 /// Pixels of four channels without a hue, four at a time.
@@ -112,36 +87,15 @@ impl<P: Pixel> Block<P> for RgbaX4 {
 
     ghost some = { refl };
 
+    /// At each index the alphas are those of its own pixel.
     #[inline(always)]
-    fn composite<O: Blend, D: Stored<P>, S: Stored<P>>(dst: &mut [D], src: &[S]) {
-        composite_four::<O, P, D, 0>(dst, four_pixels::<P, S>(src));
-    }
-
-    #[inline(always)]
-    fn color<O: Blend, D: Stored<P>>(dst: &mut [D], clr: &P) {
-        composite_four::<O, P, D, 1>(dst, four_times(clr));
-    }
-
-    #[inline(always)]
-    fn matted<O: Blend, D: Stored<P>, M: Coverage<P::Chan>>(dst: &mut [D], src: &[M], clr: &P) {
-        let colors = masked_channels::<P>(four_times(clr), &four_values(src));
-        composite_four::<O, P, D, 2>(dst, colors);
-    }
-
-    #[inline(always)]
-    fn masked<O: Blend, D: Stored<P>, S: Stored<P>, M: Coverage<P::Chan>>(
-        dst: &mut [D],
-        src: &[S],
-        mattes: &[M],
-    ) {
-        let colors = masked_channels::<P>(four_pixels::<P, S>(src), &four_values(mattes));
-        composite_four::<O, P, D, 3>(dst, colors);
-    }
-
-    #[inline(always)]
-    fn faded<O: Blend, D: Stored<P>, S: Stored<P>>(dst: &mut [D], src: &[S], alpha: P::Chan) {
-        let colors = masked_channels::<P>(four_pixels::<P, S>(src), &[alpha; 4]);
-        composite_four::<O, P, D, 4>(dst, colors);
+    fn composite<O: Blend, D: Stored<P>, S: Source<P>>(dst: &mut [D], src: &S, at: usize) {
+        let source = four_given::<P, S>(src, at);
+        let mut to = four_pixels::<P, D>(dst);
+        let da1 = P::Chan::complement16(P::Chan::alphas4(to));
+        let sa1 = P::Chan::complement16(P::Chan::alphas4(source));
+        O::composite_block(&mut to, &da1, &source, &sa1);
+        put_four_pixels::<P, D>(dst, to);
     }
 }
 

@@ -1,120 +1,99 @@
-//! The choice of blocks for the pixels of a row, and for a color. The largest blocks go first. What
-//! they leave is asked for once, and only where they leave something (`rows.rt`).
-ghost use Rattle.std.specs.Prelude.{◌≡◌, ◌≤◌, ◌+◌, length, map, take, replicate};
+//! The choice of blocks for a row. The largest go first. What they leave is asked for once, and
+//! only where they leave something (`rows.rt`).
+ghost use Rattle.std.specs.Prelude.{◌≡◌, ◌≤◌, ◌<◌, ◌+◌, ◌^◌, length, map, take, drop};
 ghost use Rattle.pix_chan.specs.Runs.{over};
 ghost use Rattle.pix_el.specs.PixelComposite.{pixel_composite};
 
 use crate::el::Pixel;
 use crate::planes::alpha_x16::AlphaX16;
-use crate::planes::block::{color_blocks, composite_blocks};
+use crate::planes::block::composite_blocks;
 use crate::planes::graya_x8::GrayaX8;
 use crate::planes::graya_x16::GrayaX16;
 use crate::planes::planes_x16::PlanesX16;
 use crate::planes::rgba_x4::RgbaX4;
-use crate::planes::rgba_x8::RgbaX8;
+use crate::planes::rgba_x8::{Alone, RgbaX8};
 use crate::planes::rgba_x16::RgbaX16;
+use crate::planes::source::Source;
+use crate::planes::unchanged::is_zero;
 use crate::planes::{has_four, has_one, has_two, is_interleaved};
 use crate::stored::Stored;
+use pix_chan::chan::Channel;
 use pix_ops::ops::Blend;
 
-/// Composites as many of the first `count` pixels as go in the largest blocks, and returns their
-/// number.
-///
-/// Condition: the format has an alpha channel, and both slices have `count` pixels.
+/// Returns whether channels have more than 8 bits.
 #[inline(always)]
-pub(crate) fn pixel_runs<O: Blend, P: Pixel, D: Stored<P>, S: Stored<P>>(
-    dst: &mut [D],
-    src: &[S],
-    count: usize,
-) -> usize
-    requires has_alpha { P.layout.count ≡ P.layout.alpha + 1 }
-    requires dst_has { count ≤ length dst.old }
-    requires src_has { count ≤ length src.now }
-    ensures some { result ≤ count }
-    ensures composite { map D.reads dst.new ≡ over (pixel_composite P.layout O.op)
-        (take result (map S.reads src.now)) (map D.reads dst.old) }
-{
-    if is_interleaved::<P>() {
-        composite_blocks::<O, P, D, S, RgbaX16>(dst, src, count)
-    } else if has_four::<P>() {
-        composite_blocks::<O, P, D, S, PlanesX16>(dst, src, count)
-    } else if has_two::<P>() {
-        composite_blocks::<O, P, D, S, GrayaX16>(dst, src, count)
-    } else if has_one::<P>() {
-        composite_blocks::<O, P, D, S, AlphaX16>(dst, src, count)
-    } else {
-        0
-    }
+pub(crate) fn is_wide<C: Channel>() -> bool {
+    C::MAX.to_u32() > 255
 }
 
-/// Composites as many of the first `count` pixels as go in the blocks that follow the largest, and
+/// Returns whether blocks of sixteen pixels are too large: for a color of 16 bits through mattes.
+#[inline(always)]
+fn takes_eight<P: Pixel, S: Source<P>>() -> bool {
+    S::is_matted_color() && is_wide::<P::Chan>()
+}
+
+/// Returns whether planes take less time: for a color through mattes, if the operator uses its
+/// alpha alone.
+#[inline(always)]
+fn takes_planes<O: Blend, P: Pixel, S: Source<P>>() -> bool {
+    S::is_matted_color() && is_zero::<O::Source, P::Chan>()
+}
+
+/// Composites as many of the first pixels as go in the largest blocks with what a source gives, and
 /// returns their number.
 ///
-/// Condition: the format has an alpha channel, and both slices have `count` pixels.
+/// Condition: the format has an alpha channel, and the source gives as many.
 #[inline(always)]
-pub(crate) fn pixel_rest<O: Blend, P: Pixel, D: Stored<P>, S: Stored<P>>(
+pub(crate) fn largest_blocks<O: Blend, P: Pixel, D: Stored<P>, S: Source<P>>(
     dst: &mut [D],
-    src: &[S],
-    count: usize,
+    src: &S,
 ) -> usize
     requires has_alpha { P.layout.count ≡ P.layout.alpha + 1 }
-    requires dst_has { count ≤ length dst.old }
-    requires src_has { count ≤ length src.now }
-    ensures some { result ≤ count }
-    ensures composite { map D.reads dst.new ≡ over (pixel_composite P.layout O.op)
-        (take result (map S.reads src.now)) (map D.reads dst.old) }
-{
-    if is_interleaved::<P>() {
-        let start = composite_blocks::<O, P, D, S, RgbaX8>(dst, src, count);
-        let (rest, sources) = (&mut dst[start..], &src[start..]);
-        start + composite_blocks::<O, P, D, S, RgbaX4>(rest, sources, count - start)
-    } else if has_two::<P>() {
-        composite_blocks::<O, P, D, S, GrayaX8>(dst, src, count)
-    } else {
-        0
-    }
-}
-
-/// Composites `clr` with as many of the first pixels as go in the largest blocks, and returns their
-/// number.
-///
-/// Condition: the format has an alpha channel.
-#[inline(always)]
-pub(crate) fn color_runs<O: Blend, P: Pixel, D: Stored<P>>(dst: &mut [D], clr: &P) -> usize
-    requires has_alpha { P.layout.count ≡ P.layout.alpha + 1 }
+    requires has { length dst.old ≤ length (S.gives src.now) }
     ensures some { result ≤ length dst.old }
     ensures composite { map D.reads dst.new ≡ over (pixel_composite P.layout O.op)
-        (take result (replicate (length dst.old) (P.numbers clr.now))) (map D.reads dst.old) }
+        (take result (S.gives src.now)) (map D.reads dst.old) }
 {
-    if is_interleaved::<P>() {
-        color_blocks::<O, P, D, RgbaX16>(dst, clr)
+    if is_interleaved::<P>() && takes_eight::<P, S>() {
+        composite_blocks::<O, P, D, S, RgbaX8<Alone>>(dst, src, 0)
+    } else if is_interleaved::<P>() && !takes_planes::<O, P, S>() {
+        composite_blocks::<O, P, D, S, RgbaX16>(dst, src, 0)
     } else if has_four::<P>() {
-        color_blocks::<O, P, D, PlanesX16>(dst, clr)
+        composite_blocks::<O, P, D, S, PlanesX16>(dst, src, 0)
     } else if has_two::<P>() {
-        color_blocks::<O, P, D, GrayaX16>(dst, clr)
+        composite_blocks::<O, P, D, S, GrayaX16>(dst, src, 0)
     } else if has_one::<P>() {
-        color_blocks::<O, P, D, AlphaX16>(dst, clr)
+        composite_blocks::<O, P, D, S, AlphaX16>(dst, src, 0)
     } else {
         0
     }
 }
 
-/// Composites `clr` with as many of the first pixels as go in the blocks that follow the largest,
-/// and returns their number.
+/// Composites as many of the first pixels as go in the blocks that follow the largest with what a
+/// source gives from `first` on, and returns their number.
 ///
-/// Condition: the format has an alpha channel.
+/// Condition: the format has an alpha channel, and the source gives as many from `first` on.
 #[inline(always)]
-pub(crate) fn color_rest<O: Blend, P: Pixel, D: Stored<P>>(dst: &mut [D], clr: &P) -> usize
+pub(crate) fn smaller_blocks<O: Blend, P: Pixel, D: Stored<P>, S: Source<P>>(
+    dst: &mut [D],
+    src: &S,
+    first: usize,
+) -> usize
     requires has_alpha { P.layout.count ≡ P.layout.alpha + 1 }
+    requires has { first + length dst.old ≤ length (S.gives src.now) }
+    requires fits { first + length dst.old < 2 ^ 64 }
     ensures some { result ≤ length dst.old }
     ensures composite { map D.reads dst.new ≡ over (pixel_composite P.layout O.op)
-        (take result (replicate (length dst.old) (P.numbers clr.now))) (map D.reads dst.old) }
+        (take result (drop first (S.gives src.now))) (map D.reads dst.old) }
 {
-    if is_interleaved::<P>() {
-        let start = color_blocks::<O, P, D, RgbaX8>(dst, clr);
-        start + color_blocks::<O, P, D, RgbaX4>(&mut dst[start..], clr)
+    if is_interleaved::<P>() && takes_eight::<P, S>() {
+        composite_blocks::<O, P, D, S, RgbaX4>(dst, src, first)
+    } else if is_interleaved::<P>() {
+        let start = composite_blocks::<O, P, D, S, RgbaX8<Alone>>(dst, src, first);
+        let rest = &mut dst[start..];
+        start + composite_blocks::<O, P, D, S, RgbaX4>(rest, src, first + start)
     } else if has_two::<P>() {
-        color_blocks::<O, P, D, GrayaX8>(dst, clr)
+        composite_blocks::<O, P, D, S, GrayaX8>(dst, src, first)
     } else {
         0
     }

@@ -1,4 +1,4 @@
-use Rattle.std.proofs.Common.{◌≡◌, ◌∙◌, ap, sym, arith, map, List, ℕ}
+use Rattle.std.proofs.Common.{◌≡◌, ◌∙◌, ap, sym, arith, map, take, List, ℕ}
 use Rattle.std.proofs.lemmas.List.{length-map}
 use Rattle.pix_chan.specs.Runs.{over}
 use Rattle.pix_chan.specs.Product.{channel_product}
@@ -11,15 +11,14 @@ use Rattle.pix_el.proofs.EightPixels.{spread_matted}
 use Rattle.pix_el.proofs.planes.rgba_x8.masked_channels.Goals as goal
 
 pub returns : goal.returns
-returns g c =
+returns g c = λ values long is.
     let max = g.P.Chan.Channel.max in
     let v = g.P.Chan.Channel.number in
     let layout : Layout = g.P.Pixel.layout in
     let cs = map v c.args.to in
     let four : layout ≡ four_of max 0 = is_four_of layout max g.P.Model.ColorModel.CIRCULAR g.P.Model.ColorModel.ALPHA g.met.P.Pixel.laid_out
     c.requires.count c.requires.alpha (placed_by_row g.P.Model.ColorModel.model _ g.met.P.Model.ColorModel.stands).hue_first ∙ ap (four_of max) c.requires.no_hue in
-    let ms = map v c.args.values.now in
     ap by_fours c.mul_run.ensures
-    ∙ ap (λ (l : List ℕ). by_fours (over (λ y x. channel_product max x y) l cs)) c.spread-by.ensures
-    ∙ spread_matted max ms cs (omega (arith, length-map c.args.values.now v)) (omega (arith, length-map c.args.to v))
-    ∙ ap (λ (l : Layout). over (matted_color l) ms (by_fours cs)) (sym four)
+    ∙ ap (λ (l : List ℕ). by_fours (over (λ y x. channel_product max x y) l cs)) is
+    ∙ spread_matted max values cs long (omega (arith, length-map c.args.to v))
+    ∙ ap (λ (l : Layout). over (matted_color l) values (by_fours cs)) (sym four)

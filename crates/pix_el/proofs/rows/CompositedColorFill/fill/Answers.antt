@@ -1,9 +1,15 @@
-use Rattle.std.proofs.Common.{◌≡◌, ◌∙◌, ℕ, List, length, map, ap, sym, refl, arith}
-use Rattle.std.proofs.lemmas.List.{length-map}
-use Rattle.pix_el.specs.PixelComposite.{pixel_composite}
+use Rattle.std.proofs.Common.{◌≡◌, ◌∙◌, ap, sym, length, map, take, refl, replicate, arith, List, ℕ}
+use Rattle.std.specs.List.{zip}
+use Rattle.std.proofs.lemmas.List.{length-map, length-replicate, length-take, take_all, take-map}
+use Rattle.std.proofs.lemmas.Slice.Zip.{length-zip}
+use Rattle.pix_chan.specs.Runs.{over}
 use Rattle.pix_chan.proofs.Slices.{over_color}
-use Rattle.pix_el.proofs.MattePlanes.{last_color}
-use Rattle.pix_el.proofs.Replaced.{one_for_each}
+use Rattle.pix_el.specs.Pixel.{Layout}
+use Rattle.pix_el.specs.PixelComposite.{matte_value, matted_color, matted_composite, pixel_composite}
+use Rattle.pix_el.proofs.Masked.{length-beside}
+use Rattle.pix_el.proofs.MattePlanes.{over-mapped}
+use Rattle.pix_el.proofs.Replaced.{one_for_each, replaced_row, filled_over}
+use Rattle.pix_el.proofs.Sources.{faded_given, last_part, masked_given, masked_row, matted_given, row_made}
 use Rattle.pix_el.proofs.rows.CompositedColorFill.fill.Goals as goal
 
 pub returns-then-is_copied : goal.returns-then-is_copied
@@ -26,17 +32,24 @@ returns-then-clears g c =
     let color = g.P.Pixel.numbers c.args.self.now.clr in
     c.clear_row.ensures ∙ one_for_each _ (pixel_composite g.P.Pixel.layout g.O.Blend.op color) (map n c.args.row.now) (c.if-clears.ensures refl color)
 
-pub returns-then-start-row : goal.returns-then-start-row
-returns-then-start-row g c =
-    let first = c.color_runs-start in
-    let rest = c.finish_color in
-    last_color g.D.Stored.reads (pixel_composite g.P.Pixel.layout g.O.Blend.op) first.result c.args.row.now first.new.dst rest.new.row (g.P.Pixel.numbers c.args.self.now.clr) first.ensures.composite (omega arith) rest.ensures
-
-pub returns-else-start-row : goal.returns-else-start-row
-returns-else-start-row g c =
+pub returns-then-start-count : goal.returns-then-start-count
+returns-then-start-count g c =
     let n = g.D.Stored.reads in
-    let first = c.color_runs-start in
-    let f = λ (d s : List ℕ). pixel_composite g.P.Pixel.layout g.O.Blend.op s d in
+    let f = pixel_composite g.P.Pixel.layout g.O.Blend.op in
     let row = c.args.row.now in
+    let color = g.P.Pixel.numbers c.args.self.now.clr in
+    let gives = replicate (length row) color in
+    let first = c.largest_blocks-start in
+    let rest = c.finish in
+    last_part n f first.result row first.new.dst rest.new.row gives first.ensures.composite ? rest.ensures
+    ∙ sym (ap (λ (l : List (List ℕ)). over f l (map n row)) (take_all (length row) gives (omega (arith, length-replicate (length row) color))))
+    ∙ over_color (λ (d s : List ℕ). f s d) (length row) (length row) color (map n row) (omega (arith, length-map row n)) (length-map row n)
+
+pub returns-else-start-count : goal.returns-else-start-count
+returns-else-start-count g c =
+    let n = g.D.Stored.reads in
+    let f = pixel_composite g.P.Pixel.layout g.O.Blend.op in
+    let row = c.args.row.now in
+    let first = c.largest_blocks-start in
     first.ensures.composite
-    ∙ over_color f first.result (length row) (g.P.Pixel.numbers c.args.self.now.clr) (map n row) (omega (arith, length-map row n)) (omega (arith, length-map row n))
+    ∙ over_color (λ (d s : List ℕ). f s d) first.result (length row) (g.P.Pixel.numbers c.args.self.now.clr) (map n row) (omega (arith, length-map row n)) (length-map row n)

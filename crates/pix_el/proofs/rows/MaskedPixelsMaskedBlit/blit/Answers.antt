@@ -1,12 +1,16 @@
-use Rattle.std.proofs.Common.{◌≡◌, ◌∙◌, sym, ap, ℕ, List, map, refl, arith}
+use Rattle.std.proofs.Common.{◌≡◌, ◌∙◌, ap, sym, length, map, take, refl, arith, List, ℕ}
 use Rattle.std.specs.List.{zip}
-use Rattle.std.proofs.lemmas.List.{length-map}
-use Rattle.pix_chan.proofs.Slices.{over_both}
+use Rattle.std.proofs.lemmas.List.{length-map, length-replicate, length-take, take_all, take-map}
+use Rattle.std.proofs.lemmas.Slice.Zip.{length-zip}
+use Rattle.pix_chan.specs.Runs.{over}
+use Rattle.pix_chan.proofs.Slices.{over_color}
 use Rattle.pix_el.specs.Pixel.{Layout}
-use Rattle.pix_el.specs.PixelComposite.{matte_value, matted_color, matted_composite}
-use Rattle.pix_el.proofs.Masked.{length-beside, masked_by_values}
-use Rattle.pix_el.proofs.MaskedPlanes.{last_beside}
-use Rattle.pix_el.proofs.Replaced.{filled_over}
+use Rattle.pix_el.specs.PixelComposite.{matte_value, matted_color, matted_composite, pixel_composite}
+use Rattle.pix_el.specs.Planes.{coverage_of}
+use Rattle.pix_el.proofs.Masked.{length-beside}
+use Rattle.pix_el.proofs.MattePlanes.{over-mapped}
+use Rattle.pix_el.proofs.Replaced.{one_for_each, replaced_row, filled_over}
+use Rattle.pix_el.proofs.Sources.{faded_given, last_part, masked_given, masked_row, matted_given, row_made}
 use Rattle.pix_el.proofs.rows.MaskedPixelsMaskedBlit.blit.Goals as goal
 
 pub returns-then-clears : goal.returns-then-clears
@@ -23,30 +27,36 @@ returns-then-clears g c =
 pub returns-then-start-count : goal.returns-then-start-count
 returns-then-start-count g c =
     let n = g.D.Stored.reads in
-    let m = g.M.Coverage.numbers in
-    let s = g.S.Stored.reads in
-    let op = g.O.Blend.op in
     let layout : Layout = g.P.Pixel.layout in
+    let f = pixel_composite layout g.O.Blend.op in
     let row = c.args.row.now in
     let src = c.args.src.now in
+    let s = g.S.Stored.reads in
+    let m = g.M.Coverage.numbers in
     let mask = c.args.mask.now in
-    let first = c.masked_runs-start in
-    let rest = c.finish_masked in
-    let max : g.P.Chan.Channel.max ≡ layout.max = sym (ap (λ (l : Layout). l.max) g.met.P.Pixel.laid_out) in
-    last_beside n m s (λ (t : List ℕ × List ℕ) (d : List ℕ). matted_composite layout op (matte_value layout t.0) t.1 d) first.result row first.new.dst rest.new.row mask src
-    (first.ensures.composite ∙ masked_by_values layout op g.P.Chan.Channel.max max m first.result mask (map s src) (map n row)) (omega arith) (omega arith) rest.ensures
+    let top = g.P.Chan.Channel.max in
+    let same : top ≡ layout.max = sym (ap (λ (l : Layout). l.max) g.met.P.Pixel.laid_out) in
+    let gives = map (λ t. matted_color layout t.0 t.1) (zip (map (coverage_of top m) (take c.min-count.result mask)) (map s (take c.min-count.result src))) in
+    let first = c.largest_blocks-start in
+    let rest = c.finish in
+    row_made n f (λ t. matted_color layout (matte_value layout (m t.0)) (s t.1)) (zip mask src) gives row _ c.min-count.result (omega (arith, c.min-count.ensures, length-zip mask src)) (masked_given layout top same m s c.min-count.result mask src)
+    (last_part n f first.result (take c.min-count.result row) first.new.dst rest.new.row gives first.ensures.composite ? rest.ensures)
+    ∙ masked_row layout g.O.Blend.op m s mask src (map n row)
 
 pub returns-else-start-count : goal.returns-else-start-count
 returns-else-start-count g c =
     let n = g.D.Stored.reads in
-    let m = g.M.Coverage.numbers in
-    let s = g.S.Stored.reads in
-    let op = g.O.Blend.op in
     let layout : Layout = g.P.Pixel.layout in
+    let f = pixel_composite layout g.O.Blend.op in
     let row = c.args.row.now in
     let src = c.args.src.now in
+    let s = g.S.Stored.reads in
+    let m = g.M.Coverage.numbers in
     let mask = c.args.mask.now in
-    let first = c.masked_runs-start in
-    let max : g.P.Chan.Channel.max ≡ layout.max = sym (ap (λ (l : Layout). l.max) g.met.P.Pixel.laid_out) in
-    first.ensures.composite ∙ masked_by_values layout op g.P.Chan.Channel.max max m first.result mask (map s src) (map n row)
-    ∙ over_both (λ (d : List ℕ) (t : List ℕ × List ℕ). matted_composite layout op (matte_value layout t.0) t.1 d) first.result (map n row) (zip (map m mask) (map s src)) (omega (arith, length-map row n, length-beside m s mask src))
+    let top = g.P.Chan.Channel.max in
+    let same : top ≡ layout.max = sym (ap (λ (l : Layout). l.max) g.met.P.Pixel.laid_out) in
+    let gives = map (λ t. matted_color layout t.0 t.1) (zip (map (coverage_of top m) (take c.min-count.result mask)) (map s (take c.min-count.result src))) in
+    let first = c.largest_blocks-start in
+    row_made n f (λ t. matted_color layout (matte_value layout (m t.0)) (s t.1)) (zip mask src) gives row first.new.dst c.min-count.result (omega (arith, c.min-count.ensures, length-zip mask src)) (masked_given layout top same m s c.min-count.result mask src)
+    (first.ensures.composite ∙ ap (λ (l : List (List ℕ)). over f l (map n (take c.min-count.result row))) (take_all first.result gives ?))
+    ∙ masked_row layout g.O.Blend.op m s mask src (map n row)

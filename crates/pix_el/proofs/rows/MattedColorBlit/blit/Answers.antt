@@ -1,10 +1,16 @@
-use Rattle.std.proofs.Common.{◌∙◌, sym, ap, ℕ, List, map, refl, arith}
-use Rattle.std.proofs.lemmas.List.{length-map}
+use Rattle.std.proofs.Common.{◌≡◌, ◌∙◌, ap, sym, length, map, take, refl, replicate, arith, List, ℕ}
+use Rattle.std.specs.List.{zip}
+use Rattle.std.proofs.lemmas.List.{length-map, length-replicate, length-take, take_all, take-map}
+use Rattle.std.proofs.lemmas.Slice.Zip.{length-zip}
+use Rattle.pix_chan.specs.Runs.{over}
+use Rattle.pix_chan.proofs.Slices.{over_color}
 use Rattle.pix_el.specs.Pixel.{Layout}
-use Rattle.pix_el.specs.PixelComposite.{matte_value, matted_color, matted_composite}
-use Rattle.pix_el.proofs.Blocks.{whole_run}
-use Rattle.pix_el.proofs.MattePlanes.{by_values, last_run}
-use Rattle.pix_el.proofs.Replaced.{filled_over}
+use Rattle.pix_el.specs.PixelComposite.{matte_value, matted_color, matted_composite, pixel_composite}
+use Rattle.pix_el.specs.Planes.{coverage_of}
+use Rattle.pix_el.proofs.Masked.{length-beside}
+use Rattle.pix_el.proofs.MattePlanes.{over-mapped}
+use Rattle.pix_el.proofs.Replaced.{one_for_each, replaced_row, filled_over}
+use Rattle.pix_el.proofs.Sources.{faded_given, last_part, masked_given, masked_row, matted_given, row_made}
 use Rattle.pix_el.proofs.rows.MattedColorBlit.blit.Goals as goal
 
 pub returns-then-clears : goal.returns-then-clears
@@ -20,26 +26,36 @@ returns-then-clears g c =
 pub returns-then-start-count : goal.returns-then-start-count
 returns-then-start-count g c =
     let n = g.D.Stored.reads in
-    let m = g.M.Coverage.numbers in
     let layout : Layout = g.P.Pixel.layout in
-    let color = g.P.Pixel.numbers c.args.self.now.clr in
+    let f = pixel_composite layout g.O.Blend.op in
     let row = c.args.row.now in
     let src = c.args.src.now in
-    let first = c.matted_runs-start in
-    let rest = c.finish_matted in
-    last_run n m (λ (matte d : List ℕ). matted_composite layout g.O.Blend.op (matte_value layout matte) color d) first.result row first.new.dst rest.new.row src
-    (first.ensures.composite ∙ by_values layout g.O.Blend.op g.P.Chan.Channel.max (sym (ap (λ (l : Layout). l.max) g.met.P.Pixel.laid_out)) m first.result src color (map n row))
-    (omega arith) rest.ensures
+    let m = g.M.Coverage.numbers in
+    let color = g.P.Pixel.numbers c.args.self.now.clr in
+    let top = g.P.Chan.Channel.max in
+    let same : top ≡ layout.max = sym (ap (λ (l : Layout). l.max) g.met.P.Pixel.laid_out) in
+    let mattes = take c.min-count.result src in
+    let gives = map (λ t. matted_color layout t.0 t.1) (zip (map (coverage_of top m) mattes) (replicate (length mattes) color)) in
+    let first = c.largest_blocks-start in
+    let rest = c.finish in
+    row_made n f (λ x. matted_color layout (matte_value layout (m x)) color) src gives row _ c.min-count.result (omega (arith, c.min-count.ensures)) (matted_given layout top same m color mattes)
+    (last_part n f first.result (take c.min-count.result row) first.new.dst rest.new.row gives first.ensures.composite ? rest.ensures)
+    ∙ sym (over-mapped (λ (t : List ℕ). matted_composite layout g.O.Blend.op (matte_value layout t) color) m src (map n row))
 
 pub returns-else-start-count : goal.returns-else-start-count
 returns-else-start-count g c =
     let n = g.D.Stored.reads in
-    let m = g.M.Coverage.numbers in
     let layout : Layout = g.P.Pixel.layout in
-    let color = g.P.Pixel.numbers c.args.self.now.clr in
+    let f = pixel_composite layout g.O.Blend.op in
     let row = c.args.row.now in
     let src = c.args.src.now in
-    let first = c.matted_runs-start in
-    whole_run n m (λ (d matte : List ℕ). matted_composite layout g.O.Blend.op (matte_value layout matte) color d) row src first.result first.new.dst
-    (first.ensures.composite ∙ by_values layout g.O.Blend.op g.P.Chan.Channel.max (sym (ap (λ (l : Layout). l.max) g.met.P.Pixel.laid_out)) m first.result src color (map n row))
-    (omega arith)
+    let m = g.M.Coverage.numbers in
+    let color = g.P.Pixel.numbers c.args.self.now.clr in
+    let top = g.P.Chan.Channel.max in
+    let same : top ≡ layout.max = sym (ap (λ (l : Layout). l.max) g.met.P.Pixel.laid_out) in
+    let mattes = take c.min-count.result src in
+    let gives = map (λ t. matted_color layout t.0 t.1) (zip (map (coverage_of top m) mattes) (replicate (length mattes) color)) in
+    let first = c.largest_blocks-start in
+    row_made n f (λ x. matted_color layout (matte_value layout (m x)) color) src gives row first.new.dst c.min-count.result (omega (arith, c.min-count.ensures)) (matted_given layout top same m color mattes)
+    (first.ensures.composite ∙ ap (λ (l : List (List ℕ)). over f l (map n (take c.min-count.result row))) (take_all first.result gives ?))
+    ∙ sym (over-mapped (λ (t : List ℕ). matted_composite layout g.O.Blend.op (matte_value layout t) color) m src (map n row))

@@ -1,7 +1,0 @@
--- Of `matted_runs`: the clause `composite`.
-use Rattle.std.proofs.Common.{sym, map}
-use Rattle.pix_chan.proofs.Slices.{over-nil}
-use Rattle.pix_el.proofs.planes.matted.matted_runs.Goals as goal
-
-pub returns-else-has_one-clause-composite : goal.returns-else-has_one-clause-composite
-returns-else-has_one-clause-composite g c = sym (over-nil _ (map g.D.Stored.reads c.args.dst.now))
