@@ -1,5 +1,5 @@
 -- What a source gives: a part of it, by parts of its pixels and values.
-use Rattle.std.proofs.Common.{◌≡◌, ℕ, zero, suc, ◌+◌, ◌-◌, ◌≤◌, ◌<◌, ◌∙◌, Bool, true, false, List, [], ◌∷◌, ◌++◌, length, map, take, drop, get_or, min, replicate, refl, ap, sym, arith}
+use Rattle.std.proofs.Common.{◌≡◌, ℕ, zero, suc, ◌+◌, ◌-◌, ◌*◌, ◌≤◌, ◌<◌, ◌∙◌, Bool, true, false, List, [], ◌∷◌, ◌++◌, length, map, take, drop, get_or, min, replicate, refl, ap, sym, arith}
 use Rattle.std.specs.List.{zip}
 use Rattle.std.proofs.lemmas.List.{append-nil, drop_all, drop-drop, drop-map, length-drop, length-map, length-take, length-take-le, map-append, take-append-drop, take-map, take_all}
 use borrow.Rule.Slice.PartMut.{put_mid}
@@ -10,7 +10,7 @@ use Rattle.pix_el.specs.PixelComposite.{matted_color, matted_composite, matte_va
 use Rattle.pix_el.specs.Planes.{coverage_of}
 use Rattle.pix_el.specs.Source.{given_by}
 use Rattle.pix_chan.proofs.Planes.{cons, same_pair}
-use Rattle.pix_chan.proofs.Slices.{map-put_mid, over_both}
+use Rattle.pix_chan.proofs.Slices.{map-put_mid, mapped_run_step, over_both}
 use Rattle.pix_el.proofs.MattePlanes.{over-mapped, over_rest}
 use Rattle.pix_el.proofs.Masked.{drop-zip, take-zip}
 use Rattle.std.proofs.lemmas.Slice.Zip.{length-zip}
@@ -201,3 +201,27 @@ got_after zero i m xs d e q h = let r : i ≡ m = omega arith in ap (λ (k : ℕ
 got_after (suc n) i m [] d e q h = absurd (omega arith)
 got_after (suc n) i zero (x ∷ xs) d e q h = absurd (omega arith)
 got_after (suc n) i (suc m) (x ∷ xs) d e q h = got_after n i m xs d e (omega (arith, q)) (omega (arith, h))
+
+-- the block of index i, which begins at `at`
+pub next_placed : {C A B : Type 0} (number : C → A) (f : B → A → A) (at size i : ℕ) (xs ws new : List C) (ys : List B) → at ≡ size * i
+    → map number ws ≡ over f (take (size * i) ys) (map number xs) → at + size ≤ length xs → at + size ≤ length ys
+    → map number new ≡ over f (take (at + size - at) (drop at ys)) (map number (take (at + size - at) (drop at ws)))
+    → map number (put_mid at (at + size - at) ws new) ≡ over f (take (size * (i + 1)) ys) (map number xs)
+next_placed number f at size i xs ws new ys is so_far wide long made =
+    let after : at + size ≡ size * (i + 1) = is_after in
+    mapped_run_step number (λ x y. f y x) at size (at + size) xs ws new ys (so_far ∙ ap (λ (n : ℕ). over f (take n ys) (map number xs)) (sym is)) refl wide long made
+    ∙ ap (λ (n : ℕ). over f (take n ys) (map number xs)) after
+    where
+      is_after : at + size ≡ size * (i + 1)
+      is_after = let e : size * (i + 1) ≡ size * i + size = omega arith in omega (arith, is, e)
+
+pub take_repeated : {A : Type 0} (k n : ℕ) (y : A) → k ≤ n → take k (replicate n y) ≡ replicate k y
+take_repeated zero n y h = refl
+take_repeated (suc k) zero y h = absurd (omega arith)
+take_repeated {A = A} (suc k) (suc n) y h = ap (λ (l : List A). y ∷ l) (take_repeated k n y (omega (arith, h)))
+
+-- a part of one element again and again
+pub part_repeated : {A : Type 0} (at k n : ℕ) (y : A) → at + k ≤ n → take k (drop at (replicate n y)) ≡ replicate k y
+part_repeated zero k n y h = take_repeated k n y (omega (arith, h))
+part_repeated (suc at) k zero y h = absurd (omega arith)
+part_repeated (suc at) k (suc n) y h = part_repeated at k n y (omega (arith, h))

@@ -42,8 +42,9 @@ pub(crate) fn finish<
     ensures { map D.reads row.new ≡ over (pixel_composite P.layout O.op)
         (drop first (S.gives src.now)) (map D.reads row.old) }
 {
-    let start = smaller_blocks::<O, P, D, S>(row, src, first);
+    let source = *src;
+    let start = smaller_blocks::<O, P, D, S>(row, &source, first);
     for i in start..row.len() {
-        composite_pixel::<O, P, D>(&mut row[i], &src.pixel(first + i), op);
+        composite_pixel::<O, P, D>(&mut row[i], &source.pixel(first + i), op);
     }
 }

@@ -1,6 +1,6 @@
 //! Blocks of pixels. Each way composites a fixed number of pixels at a time with those of any
 //! source, and one loop serves all ways.
-ghost use Rattle.std.specs.Prelude.{◌≡◌, ◌≤◌, ◌<◌, ◌+◌, ◌^◌, ℕ, length, map, take, drop};
+ghost use Rattle.std.specs.Prelude.{◌≡◌, ◌≤◌, ◌<◌, ◌+◌, ◌*◌, ◌/◌, ◌^◌, ℕ, length, map, take, drop};
 ghost use Rattle.pix_chan.specs.Runs.{over};
 ghost use Rattle.pix_el.specs.PixelComposite.{pixel_composite};
 
@@ -38,6 +38,16 @@ pub(crate) trait Block<P: Pixel> {
             (take SIZE (drop at (S.gives src.now))) (map D.reads dst.old) };
 }
 
+/// Returns where the block of index `i` begins. Condition: so many blocks go into `count` pixels.
+#[inline(always)]
+fn block_start(size: usize, i: usize, count: usize) -> usize
+    requires { i < count / size }
+    ensures is { result ≡ size * i }
+    ensures ends { result + size ≤ count }
+{
+    size * i
+}
+
 /// Composites as many of the first pixels as go in whole blocks with what a source gives from
 /// `first` on, and returns their number. A block is skipped where the operator keeps any pixel.
 /// Where what is given counts nothing, it is skipped if the operator keeps pixels under a
@@ -62,7 +72,7 @@ pub(crate) fn composite_blocks<O: Blend, P: Pixel, D: Stored<P>, S: Source<P>, B
     let size = B::SIZE;
     let count = dst.len();
     for i in 0..count / size {
-        let at = size * i;
+        let at = block_start(size, i, count);
         let block = &mut dst[at..at + size];
         if keeps_all::<O, P::Chan>() {
             establish_channels::<P, D>(block);

@@ -96,8 +96,11 @@ pub(crate) struct RgbaX8<W> {
     _place: PhantomData<W>,
 }
 
-/// The place of a block by itself.
-pub(crate) struct Alone {}
+/// The place of a block where no larger ones come before.
+pub(crate) struct Largest {}
+
+/// The place of a block among the pixels that larger ones left.
+pub(crate) struct Smaller {}
 
 /// The place of the first half of a block of sixteen.
 pub(crate) struct First {}

@@ -11,7 +11,7 @@ use crate::planes::graya_x8::GrayaX8;
 use crate::planes::graya_x16::GrayaX16;
 use crate::planes::planes_x16::PlanesX16;
 use crate::planes::rgba_x4::RgbaX4;
-use crate::planes::rgba_x8::{Alone, RgbaX8};
+use crate::planes::rgba_x8::{Largest, RgbaX8, Smaller};
 use crate::planes::rgba_x16::RgbaX16;
 use crate::planes::source::Source;
 use crate::planes::unchanged::is_zero;
@@ -55,7 +55,7 @@ pub(crate) fn largest_blocks<O: Blend, P: Pixel, D: Stored<P>, S: Source<P>>(
         (take result (S.gives src.now)) (map D.reads dst.old) }
 {
     if is_interleaved::<P>() && takes_eight::<P, S>() {
-        composite_blocks::<O, P, D, S, RgbaX8<Alone>>(dst, src, 0)
+        composite_blocks::<O, P, D, S, RgbaX8<Largest>>(dst, src, 0)
     } else if is_interleaved::<P>() && !takes_planes::<O, P, S>() {
         composite_blocks::<O, P, D, S, RgbaX16>(dst, src, 0)
     } else if has_four::<P>() {
@@ -89,7 +89,7 @@ pub(crate) fn smaller_blocks<O: Blend, P: Pixel, D: Stored<P>, S: Source<P>>(
     if is_interleaved::<P>() && takes_eight::<P, S>() {
         composite_blocks::<O, P, D, S, RgbaX4>(dst, src, first)
     } else if is_interleaved::<P>() {
-        let start = composite_blocks::<O, P, D, S, RgbaX8<Alone>>(dst, src, first);
+        let start = composite_blocks::<O, P, D, S, RgbaX8<Smaller>>(dst, src, first);
         let rest = &mut dst[start..];
         start + composite_blocks::<O, P, D, S, RgbaX4>(rest, src, first + start)
     } else if has_two::<P>() {

@@ -57,25 +57,37 @@ pub(crate) trait Source<P: Pixel>: Copy {
     /// Returns the values of eight of its pixels from `at` on, each four times. Condition: there are
     /// so many.
     fn fourfold(&self, at: usize) -> [P::Chan; 32]
-        requires { at + 8 ≤ length (gives self.now) }
+        requires has { at + 8 ≤ length (gives self.now) }
         ensures { map P.Chan.number result ≡ in_turn
             (take 8 (drop at (values self.now))) (take 8 (drop at (values self.now)))
             (take 8 (drop at (values self.now))) (take 8 (drop at (values self.now))) };
 
     /// Returns what it gives at `at`. Condition: it gives so much.
     fn pixel(&self, at: usize) -> P
-        requires { at < length (gives self.now) }
+        requires has { at < length (gives self.now) }
         ensures { P.numbers result ≡ get_or (gives self.now) at [] };
 
     /// Returns whether `count` of its pixels from `at` on are known to have the value 0. Condition:
     /// there are so many.
     fn are_clear(&self, at: usize, count: usize) -> bool
-        requires { at + count ≤ length (gives self.now) }
+        requires has { at + count ≤ length (gives self.now) }
         ensures { result ≡ true → AllClear P.layout (take count (drop at (gives self.now))) };
 
     /// What it gives is made of its pixels and values.
     ghost given: { (it : Self) →
         gives it ≡ given_by P.layout has_values (values it) (pixels it) };
+}
+
+/// Reads the channels of `count` pixels from `at` on, pixel by pixel. Condition: there are so many,
+/// and a place for each channel.
+#[inline(always)]
+fn part_channels<P: Pixel, S: Stored<P>>(src: &[S], at: usize, count: usize, to: &mut [P::Chan])
+    requires has { at + count ≤ length src.now }
+    requires places { length to.old ≡ P.layout.count * count }
+    ensures { in_pixels P.layout.count count (map P.Chan.number to.new)
+        ≡ take count (drop at (map S.reads src.now)) }
+{
+    S::load_channels(&src[at..at + count], to);
 }
 
 /// Reads the channels of a color `count` times.
@@ -92,16 +104,19 @@ fn repeat_channels<P: Pixel>(clr: &P, count: usize, to: &mut [P::Chan])
     }
 }
 
-/// Returns the values of at most sixteen mattes, and zeros after them.
+/// Returns the values of `count` mattes from `at` on, and zeros after them. Condition: there are so
+/// many, and at most sixteen.
 #[inline(always)]
-fn matte_values<C: Channel, M: Coverage<C>>(mattes: &[M]) -> [C; 16]
-    requires { length mattes.now ≤ 16 }
-    ensures { take (length mattes.now) (map C.number result)
-        ≡ map (coverage_of C.max M.numbers) mattes.now }
+fn part_values<C: Channel, M: Coverage<C>>(mattes: &[M], at: usize, count: usize) -> [C; 16]
+    requires has { at + count ≤ length mattes.now }
+    requires few { count ≤ 16 }
+    ensures { take count (map C.number result)
+        ≡ take count (drop at (map (coverage_of C.max M.numbers) mattes.now)) }
 {
     let mut all = [C::MIN; 16];
-    for i in 0..mattes.len() {
-        all[i] = mattes[i].coverage();
+    let part = &mattes[at..at + count];
+    for i in 0..part.len() {
+        all[i] = part[i].coverage();
     }
     all
 }
@@ -128,6 +143,19 @@ fn spread<C: Channel>(values: [C; 16]) -> [C; 32]
 {
     let (a, b, _, _) = C::join4(values, values, values, values);
     joined(a, b)
+}
+
+/// Returns the values of eight mattes from `at` on, each four times. Condition: there are so many.
+#[inline(always)]
+fn part_fourfold<C: Channel, M: Coverage<C>>(mattes: &[M], at: usize) -> [C; 32]
+    requires { at + 8 ≤ length mattes.now }
+    ensures { map C.number result ≡ in_turn
+        (take 8 (drop at (map (coverage_of C.max M.numbers) mattes.now)))
+        (take 8 (drop at (map (coverage_of C.max M.numbers) mattes.now)))
+        (take 8 (drop at (map (coverage_of C.max M.numbers) mattes.now)))
+        (take 8 (drop at (map (coverage_of C.max M.numbers) mattes.now))) }
+{
+    spread(part_values(mattes, at, 8))
 }
 
 /// Returns a pixel multiplied by a matte value, but for its hue.
@@ -171,7 +199,7 @@ impl<'a, P: Pixel, S: Stored<P>> Source<P> for Pixels<'a, S> {
 
     #[inline(always)]
     fn channels(&self, at: usize, count: usize, to: &mut [P::Chan]) {
-        S::load_channels(&self.src[at..at + count], to);
+        part_channels::<P, S>(self.src, at, count, to);
     }
 
     #[inline(always)]
@@ -290,12 +318,12 @@ impl<'a, P: Pixel, M: Coverage<P::Chan>> Source<P> for Matted<'a, P, M> {
 
     #[inline(always)]
     fn values(&self, at: usize, count: usize) -> [P::Chan; 16] {
-        matte_values(&self.mattes[at..at + count])
+        part_values(self.mattes, at, count)
     }
 
     #[inline(always)]
     fn fourfold(&self, at: usize) -> [P::Chan; 32] {
-        spread(matte_values(&self.mattes[at..at + 8]))
+        part_fourfold(self.mattes, at)
     }
 
     #[inline(always)]
@@ -342,17 +370,17 @@ impl<'a, P: Pixel, S: Stored<P>, M: Coverage<P::Chan>> Source<P> for Masked<'a, 
 
     #[inline(always)]
     fn channels(&self, at: usize, count: usize, to: &mut [P::Chan]) {
-        S::load_channels(&self.src[at..at + count], to);
+        part_channels::<P, S>(self.src, at, count, to);
     }
 
     #[inline(always)]
     fn values(&self, at: usize, count: usize) -> [P::Chan; 16] {
-        matte_values(&self.mattes[at..at + count])
+        part_values(self.mattes, at, count)
     }
 
     #[inline(always)]
     fn fourfold(&self, at: usize) -> [P::Chan; 32] {
-        spread(matte_values(&self.mattes[at..at + 8]))
+        part_fourfold(self.mattes, at)
     }
 
     #[inline(always)]
@@ -399,7 +427,7 @@ impl<'a, P: Pixel, S: Stored<P>> Source<P> for Faded<'a, S, P::Chan> {
 
     #[inline(always)]
     fn channels(&self, at: usize, count: usize, to: &mut [P::Chan]) {
-        S::load_channels(&self.src[at..at + count], to);
+        part_channels::<P, S>(self.src, at, count, to);
     }
 
     #[inline(always)]

@@ -8,4 +8,4 @@ use Rattle.pix_el.proofs.rest.finish.Given as goal
 abbrev pub invariant-loop-i : goal.invariant-loop-i
 invariant-loop-i g l =
     let n = g.D.Stored.reads in
-    map n l.row ≡ over (pixel_composite g.P.Pixel.layout g.O.Blend.op) (take l.i (drop l.first (g.S.Source.gives l.src))) (map n l.fn.row)
+    map n l.row ≡ over (pixel_composite g.P.Pixel.layout g.O.Blend.op) (take l.i (drop l.first (g.S.Source.gives l.source))) (map n l.fn.row)

@@ -1,19 +1,17 @@
 -- Of `composite_blocks`: that a block lies within the slice, and that the invariant of its loop over
 -- `i` holds at first and stays, whether a block is skipped, becomes clear, or is composited.
-use Rattle.std.proofs.Common.{◌≡◌, ◌≤◌, ◌+◌, ◌-◌, ◌*◌, ◌<◌, ◌∙◌, ℕ, List, [], arith, rules, map, take, drop, length, get_or, sym, ap, subst, replicate}
-use borrow.Author.Rules.{scaled_fits≤}
+use Rattle.std.proofs.Common.{◌≡◌, ◌≤◌, ◌+◌, ◌-◌, ◌*◌, ◌<◌, ◌∙◌, ℕ, List, [], arith, refl, map, take, drop, length, get_or, sym, ap, subst, replicate}
 use Rattle.std.proofs.lemmas.List.{length-map, length-drop, length-take-le, drop-drop}
 use Rattle.pix_el.specs.Pixel.{Layout}
 use Rattle.pix_el.specs.PixelComposite.{pixel_composite}
 use Rattle.pix_el.specs.Premultiplied.{IsBounded}
 use Rattle.pix_el.specs.Source.{AllClear, IsCleared}
-use Rattle.pix_chan.proofs.Slices.{next_block}
 use Rattle.pix_chan.specs.Runs.{over}
-use Rattle.pix_el.proofs.Blocks.{block_ends, none_yet}
+use Rattle.pix_el.proofs.Blocks.{none_yet}
 use Rattle.pix_el.proofs.Models.{placed_by_row}
 use Rattle.pix_el.proofs.Composited.{Fits, alpha_bounded}
 use Rattle.pix_el.proofs.Replaced.{emptied_clear, over_emptied}
-use Rattle.pix_el.proofs.Sources.{part_long}
+use Rattle.pix_el.proofs.Sources.{next_placed, part_long}
 use Rattle.pix_el.proofs.Unchanged.{kept_clear, kept_always, over_kept}
 use Rattle.pix_el.proofs.Written.{length-over}
 use Rattle.pix_el.proofs.planes.block.composite_blocks.Goals as goal
@@ -23,23 +21,18 @@ pub loop-i-init : goal.loop-i-init
 loop-i-init g c =
     none_yet (λ (d s : List ℕ). pixel_composite g.P.Pixel.layout g.O.Blend.op s d) c.SIZE-size.result (map g.D.Stored.reads c.args.dst.now) (drop c.args.first (g.S.Source.gives c.args.src.now))
 
-pub offset_bounds-dst-at : goal.offset_bounds-dst-at
-offset_bounds-dst-at g c =
-    let ends = block_ends (length c.args.dst.now) c.SIZE-size.result c.loop-i.i c.loop-i-test.true in
-    let fits : c.SIZE-size.result * c.loop-i.i ≤ length c.loop-i.dst = omega (arith, ends) in
-    scaled_fits≤ _ (length c.loop-i.dst) _ fits (search rules)
-
 pub loop-i-preserved : goal.loop-i-preserved
 loop-i-preserved g c =
     let d = g.D.Stored.reads in
     let op = g.O.Blend.op in
     let top = g.P.Chan.Channel.max in
     let size = c.SIZE-size.result in
-    let at : ℕ = size * c.loop-i.i in
+    let at : ℕ = c.block_start-at.result in
+    let is : at ≡ size * c.loop-i.i = c.block_start-at.ensures.is in
     let k : ℕ = at + size - at in
     let first = c.args.first in
     let dst = c.args.dst.now in
-    let ends = block_ends (length dst) size c.loop-i.i c.loop-i-test.true in
+    let ends : at + size ≤ length dst = c.block_start-at.ensures.ends in
     let gives = g.S.Source.gives c.args.src.now in
     let ys = drop first gives in
     let wide : at + size ≤ length dst = omega (arith, ends) in
@@ -57,16 +50,16 @@ loop-i-preserved g c =
     let many : length given ≡ size = ap length (sym same) ∙ part_long (first + at) size gives (omega (arith, ends, c.requires.has)) in
     let clear_at : AllClear g.P.Pixel.layout (take size (drop (first + at) gives)) → (j : ℕ) → j < length given → IsCleared layout (get_or given j [])
     = λ all j lt. subst (λ (l : Layout). IsCleared l (get_or given j [])) laid_out (subst (λ (l : List (List ℕ)). AllClear g.P.Pixel.layout l) same all j lt) in
-    let next = next_block d (λ (p s : List ℕ). made s p) size c.loop-i.i dst c.loop-i.dst in
+    let next = next_placed d made at size c.loop-i.i dst c.loop-i.dst in
     elim c.if-keeps_all.branch [
-      | then-keeps_all w ↦ rw w.dst-is (next part ys c.loop-i.invariant wide long
+      | then-keeps_all w ↦ rw w.dst-is (next part ys is c.loop-i.invariant wide long
           (over_kept made d g.P.Pixel.layout.count given part
           (λ j p lt counted.
           let fits : Fits layout.max (d p) = subst (λ (l : Layout). Fits l.max (d p)) laid_out (record { at = g.met.D.Stored.fits p }) in
           subst (λ (l : Layout). d p ≡ pixel_composite l op (get_or given j []) (d p)) (sym laid_out)
           (kept_always layout op laws alpha (get_or given j []) (d p) (c.keeps_all.ensures w.if-keeps_all.true) counted fits))
           w.establish_channels.ensures))
-      | else-keeps_all+then-keeps_under_clear+then-are_clear w ↦ rw w.dst-is (next part ys c.loop-i.invariant wide long
+      | else-keeps_all+then-keeps_under_clear+then-are_clear w ↦ rw w.dst-is (next part ys is c.loop-i.invariant wide long
           (over_kept made d g.P.Pixel.layout.count given part
           (λ j p lt counted.
           let fits : Fits layout.max (d p) = subst (λ (l : Layout). Fits l.max (d p)) laid_out (record { at = g.met.D.Stored.fits p }) in
@@ -78,7 +71,7 @@ loop-i-preserved g c =
       | else-keeps_all+else-keeps_under_clear+then-saves_products+then-empties_under_clear+then-are_clear-2 w ↦
           let no_hue : layout.hues.end ≡ 0 = sym (ap (λ (l : Layout). l.hues.end) laid_out) ∙ w.empties_under_clear.ensures.no_hue w.if-empties_under_clear.true in
           let wide_now : length c.loop-i.dst ≡ length dst = sym (length-map c.loop-i.dst d) ∙ ap length c.loop-i.invariant ∙ length-over made (take (size * c.loop-i.i) ys) (map d dst) ∙ length-map dst d in
-          rw w.dst-is (next w.clear_row.new.row ys c.loop-i.invariant wide long
+          rw w.dst-is (next w.clear_row.new.row ys is c.loop-i.invariant wide long
           (w.clear_row.ensures
           ∙ over_emptied made d (replicate g.P.Pixel.layout.count 0) given part
           (many ∙ sym (length-take-le k (drop at c.loop-i.dst) (omega (arith, wide_now, wide, length-drop at c.loop-i.dst)) ∙ size_is))
@@ -88,7 +81,7 @@ loop-i-preserved g c =
           subst (λ (l : Layout). replicate l.count 0 ≡ pixel_composite l op (get_or given j []) (d p)) (sym laid_out)
           (emptied_clear layout op laws alpha cleared.color (d p) no_hue (w.empties_under_clear.ensures.empties w.if-empties_under_clear.true) (record { at = cleared.fits }) fits
           ∙ ap (λ (s : List ℕ). pixel_composite layout op s (d p)) (sym cleared.is)))))
-      | else-keeps_all+else-keeps_under_clear+else-saves_products w ↦ rw w.dst-is (next w.composite.new.dst ys c.loop-i.invariant wide long
+      | else-keeps_all+else-keeps_under_clear+else-saves_products w ↦ rw w.dst-is (next w.composite.new.dst ys is c.loop-i.invariant wide long
           (w.composite.ensures ∙ ap (λ (l : List (List ℕ)). over made l (map d part)) (ap (λ (n : ℕ). take n (drop (first + at) gives)) (sym c.SIZE-size.ensures) ∙ same)))
     ]
 
