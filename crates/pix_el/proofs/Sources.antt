@@ -1,8 +1,9 @@
 -- What a source gives: a part of it, by parts of its pixels and values.
-use Rattle.std.proofs.Common.{◌≡◌, ℕ, zero, suc, ◌+◌, ◌-◌, ◌*◌, ◌≤◌, ◌<◌, ◌∙◌, Bool, true, false, List, [], ◌∷◌, ◌++◌, length, map, take, drop, get_or, min, replicate, refl, ap, sym, arith}
+use Rattle.std.proofs.Common.{◌≡◌, ℕ, zero, suc, ◌+◌, ◌-◌, ◌*◌, ◌≤◌, ◌<◌, ◌∙◌, Bool, true, false, List, [], ◌∷◌, ◌++◌, length, map, take, drop, get_or, min, replicate, refl, ap, subst, sym, arith}
 use Rattle.std.specs.List.{zip}
 use Rattle.std.proofs.lemmas.List.{append-nil, drop_all, drop-drop, drop-map, length-drop, length-map, length-take, length-take-le, map-append, take-append-drop, take-map, take_all}
 use borrow.Rule.Slice.PartMut.{put_mid}
+use Rattle.pix_chan.specs.Planes.{in_turn}
 use Rattle.pix_chan.specs.Runs.{over}
 use Rattle.pix_ops.specs.declared.ops.Op.{Op}
 use Rattle.pix_el.specs.Pixel.{Layout, channel}
@@ -62,14 +63,11 @@ module _ (layout : Layout) (has : Bool) (values : List ℕ) (pixels gives : List
       ∙ ap (λ (l : List (ℕ × List ℕ)). map f (take k l)) (drop-zip at values pixels)
       ∙ ap (map f) (take-zip k (drop at values) (drop at pixels)))
 
-take_none : {A : Type 0} (k : ℕ) → take k ([] : List A) ≡ []
-take_none zero = refl
-take_none (suc k) = refl
-
 take_join : {A : Type 0} (j k m : ℕ) (xs : List A) → m ≡ j + k → take j xs ++ take k (drop j xs) ≡ take m xs
 take_join zero k m xs e = let q : k ≡ m = omega arith in ap (λ (n : ℕ). take n xs) q
 take_join (suc j) k zero xs e = absurd (omega arith)
-take_join (suc j) k (suc m) [] e = take_none k
+take_join (suc j) zero (suc m) [] e = refl
+take_join (suc j) (suc k) (suc m) [] e = refl
 take_join {A = A} (suc j) k (suc m) (x ∷ xs) e = ap (λ (l : List A). x ∷ l) (take_join j k m xs (omega arith))
 
 -- two parts one after the other
@@ -225,3 +223,50 @@ pub part_repeated : {A : Type 0} (at k n : ℕ) (y : A) → at + k ≤ n → tak
 part_repeated zero k n y h = take_repeated k n y (omega (arith, h))
 part_repeated (suc at) k zero y h = absurd (omega arith)
 part_repeated (suc at) k (suc n) y h = part_repeated at k n y (omega (arith, h))
+
+-- one value sixteen times, and a part of one value again and again
+pub one_value : (at k n x y : ℕ) → k ≤ 16 → x ≡ y → at + k ≤ n → take k (replicate 16 x) ≡ take k (drop at (replicate n y))
+one_value at k n x y few e h = take_repeated k 16 x few ∙ ap (replicate k) e ∙ sym (part_repeated at k n y h)
+
+-- one value of eight, each four times
+pub one_fourfold : (at n x y : ℕ) → x ≡ y → at + 8 ≤ n
+    → replicate 32 x ≡ in_turn (take 8 (drop at (replicate n y))) (take 8 (drop at (replicate n y))) (take 8 (drop at (replicate n y))) (take 8 (drop at (replicate n y)))
+one_fourfold at n x y e h =
+    ap (replicate 32) e ∙ ap (λ (l : List ℕ). in_turn l l l l) (sym (part_repeated at 8 n y h))
+
+-- what is given at a place, by the value and the pixel there
+pub got_given : {A : Type 0} (f : ℕ → List ℕ → A) (i : ℕ) (xs : List ℕ) (ys : List (List ℕ)) (x : ℕ) (y : List ℕ) (e : A) → i < length xs → i < length ys
+    → x ≡ get_or xs i x → y ≡ get_or ys i y → f x y ≡ get_or (map (λ t. f t.0 t.1) (zip xs ys)) i e
+got_given f i [] ys x y e h k p q = absurd (omega arith)
+got_given f i (a ∷ xs) [] x y e h k p q = absurd (omega arith)
+got_given f zero (a ∷ xs) (b ∷ ys) x y e h k p q = ap (λ (n : ℕ). f n y) p ∙ ap (f a) q
+got_given f (suc i) (a ∷ xs) (b ∷ ys) x y e h k p q = got_given f i xs ys x y e (omega (arith, h)) (omega (arith, k)) p q
+
+-- how many are given of two lists
+pub given_long : {A B D : Type 0} (f : A × B → D) (xs : List A) (ys : List B) → length (map f (zip xs ys)) ≡ min (length xs) (length ys)
+given_long f xs ys = length-map (zip xs ys) f ∙ length-zip xs ys
+
+module _ {M : Type 0} (value : M → ℕ) (h : ℕ → List ℕ → List ℕ) (color : List ℕ) where
+  matted_is : (mattes : List M) → map (λ t. h t.0 t.1) (zip (map value mattes) (replicate (length mattes) color)) ≡ map (λ m. h (value m) color) mattes
+  matted_is [] = refl
+  matted_is (m ∷ mattes) = cons refl (matted_is mattes)
+
+  clear_of : (part : List M) (j : ℕ) → j < length part → get_or (map value part) j 0 ≡ 0 → get_or (map (λ m. h (value m) color) part) j [] ≡ h 0 color
+  clear_of [] j lt e = absurd (omega arith)
+  clear_of (m ∷ part) zero lt e = ap (λ (n : ℕ). h n color) e
+  clear_of (m ∷ part) (suc j) lt e = clear_of part j (omega (arith, lt)) e
+
+  -- a color through a part of mattes that are 0
+  pub clear_given : (at k : ℕ) (mattes : List M) → at + k ≤ length mattes
+      → ((j : ℕ) → get_or (map value (take (at + k - at) (drop at mattes))) j 0 ≡ 0)
+      → (j : ℕ) → j < length (take k (drop at (map (λ t. h t.0 t.1) (zip (map value mattes) (replicate (length mattes) color)))))
+      → get_or (take k (drop at (map (λ t. h t.0 t.1) (zip (map value mattes) (replicate (length mattes) color))))) j [] ≡ h 0 color
+  clear_given at k mattes within none j lt =
+      let g = λ (m : M). h (value m) color in
+      let part = take k (drop at mattes) in
+      let size : at + k - at ≡ k = omega arith in
+      let is : take k (drop at (map (λ t. h t.0 t.1) (zip (map value mattes) (replicate (length mattes) color)))) ≡ map g part
+      = ap (λ (l : List (List ℕ)). take k (drop at l)) (matted_is mattes) ∙ ap (take k) (drop-map g at mattes) ∙ take-map g k (drop at mattes) in
+      let below : j < length part = subst (λ (n : ℕ). j < n) (ap length is ∙ length-map part g) lt in
+      ap (λ (l : List (List ℕ)). get_or l j []) is
+      ∙ clear_of part j below (sym (ap (λ (n : ℕ). get_or (map value (take n (drop at mattes))) j 0) size) ∙ none j)

@@ -1,0 +1,14 @@
+-- Of `fourfold`: that there are so many mattes.
+use Rattle.std.proofs.Common.{arith, length, map, replicate}
+use Rattle.std.proofs.lemmas.List.{length-map, length-replicate}
+use Rattle.pix_el.specs.Planes.{coverage_of}
+use Rattle.pix_el.specs.PixelComposite.{matted_color}
+use Rattle.pix_el.proofs.Sources.{given_long}
+use Rattle.pix_el.proofs.planes.source.MattedSource.fourfold.Goals as goal
+
+pub part_fourfold-requires : goal.part_fourfold-requires
+part_fourfold-requires g c =
+    let mattes = c.args.self.now.mattes.now in
+    let color = g.P.Pixel.numbers c.args.self.now.clr in
+    let value = coverage_of g.P.Chan.Channel.max g.M.Coverage.numbers in
+    omega (arith, c.requires, given_long (λ t. matted_color g.P.Pixel.layout t.0 t.1) (map value mattes) (replicate (length mattes) color), length-map mattes value, length-replicate (length mattes) color)
