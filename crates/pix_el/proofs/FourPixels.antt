@@ -13,14 +13,14 @@ use Rattle.pix_chan.proofs.Planes.{cons, four_times}
 use Rattle.pix_chan.proofs.Sixteen.{is_sixteen}
 use Rattle.pix_el.proofs.FourPlanes.{four_of, one_channel}
 
--- what stands for the first four of sixteen
-pub first_four : {C : Type 0} (v : C → ℕ) (xs : List C) (a b c d : C) → length xs ≡ 16 → a ≡ get_or xs 0 a → b ≡ get_or xs 1 b → c ≡ get_or xs 2 c → d ≡ get_or xs 3 d
-    → v a ∷ v b ∷ v c ∷ v d ∷ [] ≡ take 4 (map v xs)
-first_four v [] a b c d h e f g i = absurd (omega arith)
-first_four v (p ∷ []) a b c d h e f g i = absurd (omega arith)
-first_four v (p ∷ q ∷ []) a b c d h e f g i = absurd (omega arith)
-first_four v (p ∷ q ∷ r ∷ []) a b c d h e f g i = absurd (omega arith)
-first_four v (p ∷ q ∷ r ∷ s ∷ xs) a b c d h e f g i = cons (ap v e) (cons (ap v f) (cons (ap v g) (cons (ap v i) refl)))
+-- what stands for the first four of sixteen, whatever is named for places past their end
+pub first_four : {C : Type 0} (v : C → ℕ) (xs : List C) (a b c d : C) → length xs ≡ 16
+    → v (get_or xs 0 a) ∷ v (get_or xs 1 b) ∷ v (get_or xs 2 c) ∷ v (get_or xs 3 d) ∷ [] ≡ take 4 (map v xs)
+first_four v [] a b c d h = absurd (omega arith)
+first_four v (p ∷ []) a b c d h = absurd (omega arith)
+first_four v (p ∷ q ∷ []) a b c d h = absurd (omega arith)
+first_four v (p ∷ q ∷ r ∷ []) a b c d h = absurd (omega arith)
+first_four v (p ∷ q ∷ r ∷ s ∷ xs) a b c d h = refl
 
 -- what is made of the last channels
 pub last_made : {A B : Type 0} (f : A → B) (cs : List A) → last_of_four (map f cs) ≡ map f (last_of_four cs)

@@ -129,7 +129,7 @@ over_within {A = A} f (y ∷ ys) (x ∷ xs) rest h = ap (λ (l : List A). f y x 
 pub row_made : {D T A B : Type 0} (number : D → A) (f : B → A → A) (h : T → B) (ts : List T) (gives : List B) (row part : List D) (count : ℕ)
     → count ≡ min (length row) (length ts) → gives ≡ map h (take count ts) → map number part ≡ over f gives (map number (take count row))
     → map number (part ++ drop count row) ≡ over (λ t. f (h t)) ts (map number row)
-row_made {A = A} {B = B} number f h ts gives row part count many is made =
+row_made {T = T} {A = A} {B = B} number f h ts gives row part count many is made =
     let first = take count row in
     let long : length gives ≤ length (map number first)
     = rw is (omega (arith, many, length-map (take count ts) h, length-take count ts, length-map first number, length-take count row)) in

@@ -69,6 +69,33 @@ pub(crate) fn largest_blocks<O: Blend, P: Pixel, D: Stored<P>, S: Source<P>>(
     }
 }
 
+/// Composites as many of the first pixels as go in blocks of eight with what a source gives from
+/// `first` on, and returns their number. Where blocks of eight were the largest, none is left.
+///
+/// Condition: pixels go interleaved, the format has an alpha channel, and the source gives as many
+/// from `first` on.
+#[inline(always)]
+fn eight_blocks<O: Blend, P: Pixel, D: Stored<P>, S: Source<P>>(
+    dst: &mut [D],
+    src: &S,
+    first: usize,
+) -> usize
+    requires has_alpha { P.layout.count ≡ P.layout.alpha + 1 }
+    requires alpha { P.layout.alpha ≡ 3 }
+    requires no_hue { P.layout.hues.end ≡ 0 }
+    requires has { first + length dst.old ≤ length (S.gives src.now) }
+    requires fits { first + length dst.old < 2 ^ 64 }
+    ensures some { result ≤ length dst.old }
+    ensures composite { map D.reads dst.new ≡ over (pixel_composite P.layout O.op)
+        (take result (drop first (S.gives src.now))) (map D.reads dst.old) }
+{
+    if takes_eight::<P, S>() {
+        0
+    } else {
+        composite_blocks::<O, P, D, S, RgbaX8<Smaller>>(dst, src, first)
+    }
+}
+
 /// Composites as many of the first pixels as go in the blocks that follow the largest with what a
 /// source gives from `first` on, and returns their number.
 ///
@@ -86,10 +113,8 @@ pub(crate) fn smaller_blocks<O: Blend, P: Pixel, D: Stored<P>, S: Source<P>>(
     ensures composite { map D.reads dst.new ≡ over (pixel_composite P.layout O.op)
         (take result (drop first (S.gives src.now))) (map D.reads dst.old) }
 {
-    if is_interleaved::<P>() && takes_eight::<P, S>() {
-        composite_blocks::<O, P, D, S, RgbaX4>(dst, src, first)
-    } else if is_interleaved::<P>() {
-        let start = composite_blocks::<O, P, D, S, RgbaX8<Smaller>>(dst, src, first);
+    if is_interleaved::<P>() {
+        let start = eight_blocks::<O, P, D, S>(dst, src, first);
         let rest = &mut dst[start..];
         start + composite_blocks::<O, P, D, S, RgbaX4>(rest, src, first + start)
     } else if has_two::<P>() {

@@ -21,7 +21,7 @@ loop-i-preserved g c =
     let within : first + i < length gives = omega (arith, c.requires.has, c.loop-i-test.true) in
     let is : item ≡ get_or ys i item = c.pixel.ensures ∙ sym (got_after first i (first + i) gives item _ refl within) in
     mapped_one_step n f i (i + 1) c.args.row.now c.loop-i.row new old (n old) item item ys c.loop-i.invariant refl (omega arith) (omega (arith, within, length-drop first gives))
-    is c.index-row-i.is c.composite_pixel.ensures
+    is c.index-row-i.is (c.composite_pixel.ensures ∙ ap (λ (d : List ℕ). f d item) (ap n (sym c.index-row-i.is)))
 
 pub returns : goal.returns
 returns g c =

@@ -1,4 +1,4 @@
-use Rattle.std.proofs.Common.{◌≡◌, ◌∙◌, ap, sym, arith, map, take, List, [], ◌∷◌, ℕ}
+use Rattle.std.proofs.Common.{◌≡◌, ◌∙◌, ap, sym, arith, get_or, map, take, List, [], ◌∷◌, ℕ}
 use Rattle.std.proofs.lemmas.List.{length-map}
 use Rattle.pix_chan.specs.Runs.{over}
 use Rattle.pix_el.specs.Planes.{by_fours}
@@ -16,14 +16,13 @@ returns g c =
     let layout : Layout = g.P.Pixel.layout in
     let cs = map v c.args.to in
     let values = c.args.values in
-    let one = v c.index-values-0.result in
-    let two = v c.index-values-1.result in
-    let three = v c.index-values-2.result in
-    let last = v c.index-values-3.result in
+    let one = v (get_or values 0 c.index-values-0.result) in
+    let two = v (get_or values 1 c.index-values-1.result) in
+    let three = v (get_or values 2 c.index-values-2.result) in
+    let last = v (get_or values 3 c.index-values-3.result) in
     let four : layout ≡ four_of max 0 = is_four_of layout max g.P.Model.ColorModel.CIRCULAR g.P.Model.ColorModel.ALPHA g.met.P.Pixel.laid_out
     c.requires.count c.requires.alpha (placed_by_row g.P.Model.ColorModel.model _ g.met.P.Model.ColorModel.stands).hue_first ∙ ap (four_of max) c.requires.no_hue in
-    let ms : one ∷ two ∷ three ∷ last ∷ [] ≡ take 4 (map v values) = first_four v values c.index-values-0.result c.index-values-1.result c.index-values-2.result c.index-values-3.result (omega arith)
-    c.index-values-0.is c.index-values-1.is c.index-values-2.is c.index-values-3.is in
+    let ms : one ∷ two ∷ three ∷ last ∷ [] ≡ take 4 (map v values) = first_four v values c.index-values-0.result c.index-values-1.result c.index-values-2.result c.index-values-3.result (omega arith) in
     ap by_fours c.mul_run.ensures
     ∙ each_matted max one two three last cs (omega (arith, length-map c.args.to v))
     ∙ ap (λ (l : List ℕ). over (matted_color (four_of max 0)) l (by_fours cs)) ms

@@ -41,7 +41,7 @@ returns-then-start-count g c =
     let gives = replicate (length row) color in
     let first = c.largest_blocks-start in
     let rest = c.finish in
-    last_part n f first.result row first.new.dst rest.new.row gives first.ensures.composite ? rest.ensures
+    last_part n f first.result row first.new.dst rest.new.row gives first.ensures.composite (omega (arith, first.ensures.some, length-replicate (length row) color)) rest.ensures
     ∙ sym (ap (λ (l : List (List ℕ)). over f l (map n row)) (take_all (length row) gives (omega (arith, length-replicate (length row) color))))
     ∙ over_color (λ (d s : List ℕ). f s d) (length row) (length row) color (map n row) (omega (arith, length-map row n)) (length-map row n)
 

@@ -36,7 +36,7 @@ returns-then-start-count g c =
     let first = c.largest_blocks-start in
     let rest = c.finish in
     row_made n f (n) src gives row _ c.min-count.result (omega (arith, c.min-count.ensures)) (refl)
-    (last_part n f first.result (take c.min-count.result row) first.new.dst rest.new.row gives first.ensures.composite ? rest.ensures)
+    (last_part n f first.result (take c.min-count.result row) first.new.dst rest.new.row gives first.ensures.composite (omega (arith, first.ensures.some, c.min-count.ensures, length-take c.min-count.result row, length-map (take c.min-count.result src) n, length-take c.min-count.result src)) rest.ensures)
     ∙ sym (over-mapped f n src (map n row))
 
 pub returns-else-start-count : goal.returns-else-start-count
@@ -49,5 +49,5 @@ returns-else-start-count g c =
     let gives = map n (take c.min-count.result src) in
     let first = c.largest_blocks-start in
     row_made n f (n) src gives row first.new.dst c.min-count.result (omega (arith, c.min-count.ensures)) (refl)
-    (first.ensures.composite ∙ ap (λ (l : List (List ℕ)). over f l (map n (take c.min-count.result row))) (take_all first.result gives ?))
+    (first.ensures.composite ∙ ap (λ (l : List (List ℕ)). over f l (map n (take c.min-count.result row))) (take_all first.result gives (omega (arith, c.min-count.ensures, length-map (take c.min-count.result src) n, length-take c.min-count.result src))))
     ∙ sym (over-mapped f n src (map n row))

@@ -1,6 +1,6 @@
-use Rattle.std.proofs.Common.{◌≡◌, ◌∙◌, ap, sym, length, map, take, refl, replicate, arith, List, ℕ}
+use Rattle.std.proofs.Common.{◌≡◌, ◌-◌, ◌∙◌, ap, sym, length, drop, map, take, refl, replicate, arith, List, ℕ}
 use Rattle.std.specs.List.{zip}
-use Rattle.std.proofs.lemmas.List.{length-map, length-replicate, length-take, take_all, take-map}
+use Rattle.std.proofs.lemmas.List.{length-drop, length-map, length-replicate, length-take, take_all, take-map}
 use Rattle.std.proofs.lemmas.Slice.Zip.{length-zip}
 use Rattle.pix_chan.specs.Runs.{over}
 use Rattle.pix_chan.proofs.Slices.{over_color}
@@ -9,7 +9,7 @@ use Rattle.pix_el.specs.PixelComposite.{matte_value, matted_color, matted_compos
 use Rattle.pix_el.proofs.Masked.{length-beside}
 use Rattle.pix_el.proofs.MattePlanes.{over-mapped}
 use Rattle.pix_el.proofs.Replaced.{one_for_each, replaced_row, filled_over}
-use Rattle.pix_el.proofs.Sources.{faded_given, last_part, masked_given, masked_row, matted_given, row_made}
+use Rattle.pix_el.proofs.Sources.{faded_given, given_long, last_part, masked_given, masked_row, matted_given, row_made}
 use Rattle.pix_el.proofs.rows.FadedPixelsChanBlit.blit.Goals as goal
 
 pub returns-then-clears : goal.returns-then-clears
@@ -21,6 +21,28 @@ returns-then-clears g c =
     filled_over g.D.Stored.reads _ (matted_composite layout g.O.Blend.op alpha) (map s src) c.args.row.now c.clear_row.new.row c.min-count.result
     (λ t d. c.if-clears.ensures refl (matted_color layout alpha t) d)
     (omega (arith, c.min-count.ensures, length-map src s)) c.clear_row.ensures
+
+pub largest_blocks-start-requires-clause-has : goal.largest_blocks-start-requires-clause-has
+largest_blocks-start-requires-clause-has g c =
+    let layout : Layout = g.P.Pixel.layout in
+    let row = c.args.row.now in
+    let src = c.args.src.now in
+    let s = g.S.Stored.reads in
+    let a = g.P.Chan.Channel.number c.args.self.now.alpha in
+    let part = take c.min-count.result src in
+    omega (arith, c.min-count.ensures, length-take c.min-count.result row, given_long (λ t. matted_color layout t.0 t.1) (replicate (length part) a) (map s part), length-replicate (length part) a, length-map part s, length-take c.min-count.result src)
+
+pub finish-requires-clause-has : goal.finish-requires-clause-has
+finish-requires-clause-has g c =
+    let layout : Layout = g.P.Pixel.layout in
+    let row = c.args.row.now in
+    let src = c.args.src.now in
+    let s = g.S.Stored.reads in
+    let a = g.P.Chan.Channel.number c.args.self.now.alpha in
+    let part = take c.min-count.result src in
+    let first = c.largest_blocks-start in
+    let rest = length first.new.dst - first.result in
+    omega (arith, c.min-count.ensures, first.ensures.some, length-take c.min-count.result row, length-take rest (drop first.result first.new.dst), length-drop first.result first.new.dst, given_long (λ t. matted_color layout t.0 t.1) (replicate (length part) a) (map s part), length-replicate (length part) a, length-map part s, length-take c.min-count.result src)
 
 pub returns-then-start-count : goal.returns-then-start-count
 returns-then-start-count g c =
@@ -36,7 +58,7 @@ returns-then-start-count g c =
     let first = c.largest_blocks-start in
     let rest = c.finish in
     row_made n f (λ y. matted_color layout a (s y)) src gives row _ c.min-count.result (omega (arith, c.min-count.ensures)) (faded_given layout a s part)
-    (last_part n f first.result (take c.min-count.result row) first.new.dst rest.new.row gives first.ensures.composite ? rest.ensures)
+    (last_part n f first.result (take c.min-count.result row) first.new.dst rest.new.row gives first.ensures.composite (omega (arith, first.ensures.some, c.min-count.ensures, length-take c.min-count.result row, given_long (λ t. matted_color layout t.0 t.1) (replicate (length part) a) (map s part), length-replicate (length part) a, length-map part s, length-take c.min-count.result src)) rest.ensures)
     ∙ sym (over-mapped (matted_composite layout g.O.Blend.op a) s src (map n row))
 
 pub returns-else-start-count : goal.returns-else-start-count
@@ -52,5 +74,5 @@ returns-else-start-count g c =
     let gives = map (λ t. matted_color layout t.0 t.1) (zip (replicate (length part) a) (map s part)) in
     let first = c.largest_blocks-start in
     row_made n f (λ y. matted_color layout a (s y)) src gives row first.new.dst c.min-count.result (omega (arith, c.min-count.ensures)) (faded_given layout a s part)
-    (first.ensures.composite ∙ ap (λ (l : List (List ℕ)). over f l (map n (take c.min-count.result row))) (take_all first.result gives ?))
+    (first.ensures.composite ∙ ap (λ (l : List (List ℕ)). over f l (map n (take c.min-count.result row))) (take_all first.result gives (omega (arith, c.min-count.ensures, given_long (λ t. matted_color layout t.0 t.1) (replicate (length part) a) (map s part), length-replicate (length part) a, length-map part s, length-take c.min-count.result src))))
     ∙ sym (over-mapped (matted_composite layout g.O.Blend.op a) s src (map n row))

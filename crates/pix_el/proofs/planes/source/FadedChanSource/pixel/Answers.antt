@@ -27,6 +27,6 @@ returns g c =
     let at = c.args.at in
     let item = c.index-self-at.result in
     let within : at < length src = omega (arith, c.requires, given_long (λ t. matted_color g.P.Pixel.layout t.0 t.1) (replicate (length src) (g.P.Chan.Channel.number a)) (map g.S.Stored.reads src), length-replicate (length src) (g.P.Chan.Channel.number a), length-map src g.S.Stored.reads) in
-    c.matted_pixel.ensures ∙ ap (matted_color g.P.Pixel.layout (v a)) c.load.ensures
+    c.matted_pixel.ensures ∙ ap (matted_color g.P.Pixel.layout (v a)) (c.load.ensures ∙ ap s (sym c.index-self-at.is))
     ∙ got_given (matted_color g.P.Pixel.layout) at (replicate (length src) (v a)) (map s src) (v a) (s item) [] (omega (arith, within, length-replicate (length src) (v a))) (omega (arith, within, length-map src s))
     (sym (get_or-replicate (length src) at (v a) (v a) within)) (ap s c.index-self-at.is ∙ sym (get_or-map s src at item (s item) within))

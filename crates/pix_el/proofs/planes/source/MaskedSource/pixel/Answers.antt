@@ -47,7 +47,7 @@ returns g c =
     let matte = c.index-self-at-2.result in
     let within : at < length src = omega (arith, c.requires, given_long (λ t. matted_color g.P.Pixel.layout t.0 t.1) (map value mattes) (map g.S.Stored.reads src), length-map mattes value, length-map src g.S.Stored.reads) in
     let below : at < length mattes = omega (arith, c.requires, given_long (λ t. matted_color g.P.Pixel.layout t.0 t.1) (map value mattes) (map g.S.Stored.reads src), length-map mattes value, length-map src g.S.Stored.reads) in
-    c.matted_pixel.ensures ∙ ap (matted_color g.P.Pixel.layout (g.P.Chan.Channel.number c.coverage.result)) c.load.ensures
-    ∙ ap (λ (n : ℕ). matted_color g.P.Pixel.layout n (s item)) c.coverage.ensures
+    c.matted_pixel.ensures ∙ ap (matted_color g.P.Pixel.layout (g.P.Chan.Channel.number c.coverage.result)) (c.load.ensures ∙ ap s (sym c.index-self-at.is))
+    ∙ ap (λ (n : ℕ). matted_color g.P.Pixel.layout n (s item)) (c.coverage.ensures ∙ ap value (sym c.index-self-at-2.is))
     ∙ got_given (matted_color g.P.Pixel.layout) at (map value mattes) (map s src) (value matte) (s item) [] (omega (arith, below, length-map mattes value)) (omega (arith, within, length-map src s))
     (ap value c.index-self-at-2.is ∙ sym (get_or-map value mattes at matte (value matte) below)) (ap s c.index-self-at.is ∙ sym (get_or-map s src at item (s item) within))

@@ -29,6 +29,6 @@ returns g c =
     let at = c.args.at in
     let matte = c.index-self-at.result in
     let below : at < length mattes = omega (arith, c.requires, given_long (λ t. matted_color g.P.Pixel.layout t.0 t.1) (map value mattes) (replicate (length mattes) color), length-map mattes value, length-replicate (length mattes) color) in
-    c.matted_pixel.ensures ∙ ap (λ (n : ℕ). matted_color g.P.Pixel.layout n color) c.coverage.ensures
+    c.matted_pixel.ensures ∙ ap (λ (n : ℕ). matted_color g.P.Pixel.layout n color) (c.coverage.ensures ∙ ap value (sym c.index-self-at.is))
     ∙ got_given (matted_color g.P.Pixel.layout) at (map value mattes) (replicate (length mattes) color) (value matte) color [] (omega (arith, below, length-map mattes value)) (omega (arith, below, length-replicate (length mattes) color))
     (ap value c.index-self-at.is ∙ sym (get_or-map value mattes at matte (value matte) below)) (sym (get_or-replicate (length mattes) at color color below))
