@@ -16,7 +16,6 @@ pub mod InPixels
 pub mod OnePlane
 pub mod MattePlanes
 pub mod FourPixels
-pub mod MaskedBlocks
 pub mod EightPixels
 pub mod Blocks
 pub mod Unchanged

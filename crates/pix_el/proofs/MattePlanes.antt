@@ -12,11 +12,6 @@ use Rattle.pix_el.specs.Planes.{matted_first}
 use Rattle.pix_el.specs.Pixel.{Layout, channel, lies_in}
 use Rattle.pix_el.specs.PixelComposite.{matted_composite, matte_value}
 
--- what is made of each of a list, and the list of those
-pub map-mapped : {A B C : Type 0} (f : B → C) (g : A → B) (xs : List A) → map (λ x. f (g x)) xs ≡ map f (map g xs)
-map-mapped f g [] = refl
-map-mapped {C = C} f g (x ∷ xs) = ap (λ (l : List C). f (g x) ∷ l) (map-mapped f g xs)
-
 pub over-mapped : {A B C : Type 0} (f : B → C → C) (g : A → B) (xs : List A) (ys : List C) → over f (map g xs) ys ≡ over (λ x. f (g x)) xs ys
 over-mapped f g xs [] = refl
 over-mapped f g [] (y ∷ ys) = refl

@@ -1,7 +1,7 @@
 -- What a source gives: a part of it, by parts of its pixels and values.
 use Rattle.std.proofs.Common.{◌≡◌, ℕ, zero, suc, ◌+◌, ◌-◌, ◌*◌, ◌≤◌, ◌<◌, ◌∙◌, Bool, true, false, List, [], ◌∷◌, ◌++◌, length, map, take, drop, get_or, min, replicate, refl, ap, subst, sym, arith}
 use Rattle.std.specs.List.{zip}
-use Rattle.std.proofs.lemmas.List.{append-nil, drop_all, drop-drop, drop-map, length-drop, length-map, length-take, length-take-le, map-append, take-append-drop, take-map, take_all}
+use Rattle.std.proofs.lemmas.List.{append-nil, drop_all, drop-drop, drop-map, get_or-map, length-drop, length-map, length-take, length-take-le, map-append, take-append-drop, take-map, take_all}
 use borrow.Rule.Slice.PartMut.{put_mid}
 use Rattle.pix_chan.specs.Planes.{in_turn}
 use Rattle.pix_chan.specs.Runs.{over}
@@ -188,7 +188,7 @@ module _ (layout : Layout) where
   faded_given a reads (y ∷ src) = cons refl (faded_given a reads src)
 
 -- what is read at a place of a list does not depend on what would be read past its end
-got_within : {A : Type 0} (xs : List A) (n : ℕ) (d e : A) → n < length xs → get_or xs n d ≡ get_or xs n e
+pub got_within : {A : Type 0} (xs : List A) (n : ℕ) (d e : A) → n < length xs → get_or xs n d ≡ get_or xs n e
 got_within [] n d e h = absurd (omega arith)
 got_within (x ∷ xs) zero d e h = refl
 got_within (x ∷ xs) (suc n) d e h = got_within xs n d e (omega (arith, h))
@@ -245,6 +245,32 @@ got_given f (suc i) (a ∷ xs) (b ∷ ys) x y e h k p q = got_given f i xs ys x 
 -- how many are given of two lists
 pub given_long : {A B D : Type 0} (f : A × B → D) (xs : List A) (ys : List B) → length (map f (zip xs ys)) ≡ min (length xs) (length ys)
 given_long f xs ys = length-map (zip xs ys) f ∙ length-zip xs ys
+
+-- what is given at a place of a source that has values, and of one that has none
+pub given_value : (layout : Layout) (has : Bool) (values : List ℕ) (pixels gives : List (List ℕ)) → gives ≡ given_by layout has values pixels → has ≡ true
+    → (i x : ℕ) (y : List ℕ) → i < length gives → x ≡ get_or values i x → y ≡ get_or pixels i y → matted_color layout x y ≡ get_or gives i []
+given_value layout has values pixels gives given e i x y lt p q =
+    let f = λ (t : ℕ × List ℕ). matted_color layout t.0 t.1 in
+    let is : gives ≡ map f (zip values pixels) = given ∙ ap (λ (b : Bool). given_by layout b values pixels) e in
+    let both : length gives ≡ min (length values) (length pixels) = ap length is ∙ given_long f values pixels in
+    got_given (matted_color layout) i values pixels x y [] (omega (arith, lt, both)) (omega (arith, lt, both)) p q ∙ ap (λ (l : List (List ℕ)). get_or l i []) (sym is)
+
+pub given_whole : (layout : Layout) (has : Bool) (values : List ℕ) (pixels gives : List (List ℕ)) → gives ≡ given_by layout has values pixels → has ≡ false
+    → (i : ℕ) → get_or pixels i [] ≡ get_or gives i []
+given_whole layout has values pixels gives given e i =
+    ap (λ (l : List (List ℕ)). get_or l i []) (sym (given ∙ ap (λ (b : Bool). given_by layout b values pixels) e))
+
+first_of : {A : Type 0} (xs : List A) (d : A) → get_or (take 1 xs) 0 d ≡ get_or xs 0 d
+first_of [] d = refl
+first_of (x ∷ xs) d = refl
+
+-- the first of the values from a place on
+pub first_value : {C : Type 0} (v : C → ℕ) (r : List C) (c : C) (vs : List ℕ) (at : ℕ) → 0 < length r → at < length vs → take 1 (map v r) ≡ take 1 (drop at vs)
+    → v (get_or r 0 c) ≡ get_or vs at (v (get_or r 0 c))
+first_value v r c vs at some lt e =
+    let x = v (get_or r 0 c) in
+    sym (get_or-map v r 0 c x some) ∙ sym (first_of (map v r) x) ∙ ap (λ (l : List ℕ). get_or l 0 x) e ∙ first_of (drop at vs) x
+    ∙ got_after at 0 at vs x x (omega arith) lt
 
 module _ {M : Type 0} (value : M → ℕ) (h : ℕ → List ℕ → List ℕ) (color : List ℕ) where
   matted_is : (mattes : List M) → map (λ t. h t.0 t.1) (zip (map value mattes) (replicate (length mattes) color)) ≡ map (λ m. h (value m) color) mattes

@@ -14,18 +14,6 @@ use Rattle.pix_el.specs.Pixel.{Layout}
 use Rattle.pix_el.specs.PixelComposite.{pixel_composite, matted_color}
 use Rattle.pix_el.proofs.FourPlanes.{is_layout, one_channel}
 
--- a list of two is its elements, whatever is named for places past its end
-whole2 : {A : Type 0} (xs : List A) (d0 d1 : A) → length xs ≡ 2 → get_or xs 0 d0 ∷ get_or xs 1 d1 ∷ [] ≡ xs
-whole2 [] d0 d1 h = absurd (omega arith)
-whole2 (w ∷ []) d0 d1 h = absurd (omega arith)
-whole2 (w ∷ x ∷ []) d0 d1 h = refl
-whole2 (w ∷ x ∷ y ∷ p) d0 d1 h = absurd (omega arith)
-
--- what is made of each of two
-pub mapped2 : {A B : Type 0} (f : A → B) (xs : List A) (d0 d1 : A) {r0 r1 : B} → length xs ≡ 2
-    → r0 ≡ f (get_or xs 0 d0) → r1 ≡ f (get_or xs 1 d1) → r0 ∷ r1 ∷ [] ≡ map f xs
-mapped2 f xs d0 d1 h e0 e1 = rw (e0, e1) (ap (map f) (whole2 xs d0 d1 h))
-
 -- a layout of two channels with no hue
 abbrev pub two_of : ℕ → Layout
 two_of max = record { max = max; count = 2; hues = record { start = 0; end = 0 }; alpha = 1 }
@@ -79,11 +67,6 @@ module _ (max : ℕ) (op : Op) where
 -- the first of two lists that make one
 pub first_part : (n : ℕ) (u v all : List ℕ) → length u ≡ n → u ++ v ≡ all → u ≡ take n all
 first_part n u v all h e = sym (take_at u v n h) ∙ ap (take n) e
-
--- one color eight times
-pub color_eight_times : {C : Type 0} (number : C → ℕ) (a b : C) (color : List ℕ) → number a ∷ number b ∷ [] ≡ color
-    → by_twos (take 16 (both_in_turn (map number (replicate 16 a)) (map number (replicate 16 b)))) ≡ replicate 8 color
-color_eight_times number a b color e = rw (← e) refl
 
 -- the alphas of the first pixels
 take_alphas : (n : ℕ) (cs : List ℕ) → take (n + n) (last_of_two cs) ≡ last_of_two (take (n + n) cs)

@@ -1,6 +1,6 @@
 //! What the largest blocks of a row left: smaller blocks, and then one pixel after the other. A row
 //! asks for it once (`rows.rt`).
-ghost use Rattle.std.specs.Prelude.{◌≡◌, ◌<◌, ◌+◌, ◌^◌, length, map, drop};
+ghost use Rattle.std.specs.Prelude.{◌≡◌, ◌<◌, ◌+◌, ◌^◌, [], length, map, drop, get_or};
 ghost use Rattle.pix_chan.specs.Runs.{over};
 ghost use Rattle.pix_el.specs.PixelComposite.{pixel_composite};
 
@@ -11,20 +11,30 @@ use crate::stored::Stored;
 use pix_chan::chan::{Linear, Premultiplied};
 use pix_ops::ops::Blend;
 
-/// Composites a pixel with one in memory. Condition: the format has an alpha channel.
+/// Composites a pixel in memory with what a source gives at `at`. Condition: the format has an alpha
+/// channel, and the source gives as much.
 #[inline(always)]
-pub(crate) fn composite_pixel<
+fn composite_given<
     O: Blend,
     P: Pixel<Alpha = Premultiplied, Gamma = Linear>,
     D: Stored<P>,
->(dst: &mut D, src: &P, op: O)
+    S: Source<P>,
+>(dst: &mut D, src: &S, at: usize, op: O)
     requires has_alpha { P.layout.count ≡ P.layout.alpha + 1 }
+    requires has { at < length (S.gives src.now) }
     ensures { D.reads dst.new ≡
-        pixel_composite P.layout O.op (P.numbers src.now) (D.reads dst.old) }
+        pixel_composite P.layout O.op (get_or (S.gives src.now) at []) (D.reads dst.old) }
 {
+    let source = src.pixel(at);
     let mut pixel = dst.load();
-    pixel.composite_channels(src, op);
-    *dst = D::store(&pixel);
+    if S::has_values() {
+        let value = src.values(at, 1)[0];
+        pixel.composite_channels_alpha(&source, op, &value);
+        *dst = D::store(&pixel);
+    } else {
+        pixel.composite_channels(&source, op);
+        *dst = D::store(&pixel);
+    }
 }
 
 /// Composites the pixels that larger blocks left with what a source gives from `first` on.
@@ -45,6 +55,6 @@ pub(crate) fn finish<
     let source = *src;
     let start = smaller_blocks::<O, P, D, S>(row, &source, first);
     for i in start..row.len() {
-        composite_pixel::<O, P, D>(&mut row[i], &source.pixel(first + i), op);
+        composite_given::<O, P, D, S>(&mut row[i], &source, first + i, op);
     }
 }

@@ -12,7 +12,6 @@ ghost use Rattle.pix_el.specs.PixelComposite.{matted_color};
 ghost use Rattle.pix_el.specs.Stored.{in_pixels};
 ghost use Rattle.pix_el.specs.Source.{AllClear, given_by};
 
-use crate::each::scale_each;
 use crate::el::Pixel;
 use crate::planes::unchanged::are_clear;
 use crate::stored::{Coverage, Stored, copy_channels};
@@ -37,7 +36,10 @@ pub(crate) trait Source<P: Pixel>: Copy {
         ensures { result ≡ has_values };
 
     /// Returns whether it is a color through mattes, for which other blocks are faster.
-    fn is_matted_color() -> bool;
+    #[inline(always)]
+    fn is_matted_color() -> bool {
+        false
+    }
 
     /// Reads the channels of `count` of its pixels from `at` on, pixel by pixel. Condition: there
     /// are so many, and a place for each channel.
@@ -62,16 +64,21 @@ pub(crate) trait Source<P: Pixel>: Copy {
             (take 8 (drop at (values self.now))) (take 8 (drop at (values self.now)))
             (take 8 (drop at (values self.now))) (take 8 (drop at (values self.now))) };
 
-    /// Returns what it gives at `at`. Condition: it gives so much.
+    /// Returns its pixel at `at`, as it is. Condition: there is one.
     fn pixel(&self, at: usize) -> P
         requires has { at < length (gives self.now) }
-        ensures { P.numbers result ≡ get_or (gives self.now) at [] };
+        ensures { P.numbers result ≡ get_or (pixels self.now) at [] };
 
     /// Returns whether `count` of its pixels from `at` on are known to have the value 0. Condition:
     /// there are so many.
+    #[inline(always)]
     fn are_clear(&self, at: usize, count: usize) -> bool
         requires has { at + count ≤ length (gives self.now) }
-        ensures { result ≡ true → AllClear P.layout (take count (drop at (gives self.now))) };
+        ensures { result ≡ true → AllClear P.layout (take count (drop at (gives self.now))) }
+    {
+        let _ = (at, count);
+        false
+    }
 
     /// What it gives is made of its pixels and values.
     ghost given: { (it : Self) →
@@ -158,17 +165,6 @@ fn part_fourfold<C: Channel, M: Coverage<C>>(mattes: &[M], at: usize) -> [C; 32]
     spread(part_values(mattes, at, 8))
 }
 
-/// Returns a pixel multiplied by a matte value, but for its hue.
-#[inline(always)]
-fn matted_pixel<P: Pixel>(pixel: &P, value: P::Chan) -> P
-    ensures { P.numbers result ≡
-        matted_color P.layout (P.Chan.number value) (P.numbers pixel.now) }
-{
-    let mut color = *pixel;
-    scale_each::<P::Chan, P::Model>(color.channels_mut(), value);
-    color
-}
-
 /// Pixels, of which all counts.
 #[derive(Clone, Copy)]
 pub(crate) struct Pixels<'a, S> {
@@ -193,11 +189,6 @@ impl<'a, P: Pixel, S: Stored<P>> Source<P> for Pixels<'a, S> {
     }
 
     #[inline(always)]
-    fn is_matted_color() -> bool {
-        false
-    }
-
-    #[inline(always)]
     fn channels(&self, at: usize, count: usize, to: &mut [P::Chan]) {
         part_channels::<P, S>(self.src, at, count, to);
     }
@@ -215,11 +206,6 @@ impl<'a, P: Pixel, S: Stored<P>> Source<P> for Pixels<'a, S> {
     #[inline(always)]
     fn pixel(&self, at: usize) -> P {
         self.src[at].load()
-    }
-
-    #[inline(always)]
-    fn are_clear(&self, _at: usize, _count: usize) -> bool {
-        false
     }
 }
 
@@ -249,11 +235,6 @@ impl<P: Pixel> Source<P> for OneColor<P> {
     }
 
     #[inline(always)]
-    fn is_matted_color() -> bool {
-        false
-    }
-
-    #[inline(always)]
     fn channels(&self, _at: usize, count: usize, to: &mut [P::Chan]) {
         repeat_channels(&self.clr, count, to);
     }
@@ -271,11 +252,6 @@ impl<P: Pixel> Source<P> for OneColor<P> {
     #[inline(always)]
     fn pixel(&self, _at: usize) -> P {
         self.clr
-    }
-
-    #[inline(always)]
-    fn are_clear(&self, _at: usize, _count: usize) -> bool {
-        false
     }
 }
 
@@ -327,8 +303,8 @@ impl<'a, P: Pixel, M: Coverage<P::Chan>> Source<P> for Matted<'a, P, M> {
     }
 
     #[inline(always)]
-    fn pixel(&self, at: usize) -> P {
-        matted_pixel(&self.clr, self.mattes[at].coverage())
+    fn pixel(&self, _at: usize) -> P {
+        self.clr
     }
 
     #[inline(always)]
@@ -364,11 +340,6 @@ impl<'a, P: Pixel, S: Stored<P>, M: Coverage<P::Chan>> Source<P> for Masked<'a, 
     }
 
     #[inline(always)]
-    fn is_matted_color() -> bool {
-        false
-    }
-
-    #[inline(always)]
     fn channels(&self, at: usize, count: usize, to: &mut [P::Chan]) {
         part_channels::<P, S>(self.src, at, count, to);
     }
@@ -385,12 +356,7 @@ impl<'a, P: Pixel, S: Stored<P>, M: Coverage<P::Chan>> Source<P> for Masked<'a, 
 
     #[inline(always)]
     fn pixel(&self, at: usize) -> P {
-        matted_pixel(&self.src[at].load(), self.mattes[at].coverage())
-    }
-
-    #[inline(always)]
-    fn are_clear(&self, _at: usize, _count: usize) -> bool {
-        false
+        self.src[at].load()
     }
 }
 
@@ -421,11 +387,6 @@ impl<'a, P: Pixel, S: Stored<P>> Source<P> for Faded<'a, S, P::Chan> {
     }
 
     #[inline(always)]
-    fn is_matted_color() -> bool {
-        false
-    }
-
-    #[inline(always)]
     fn channels(&self, at: usize, count: usize, to: &mut [P::Chan]) {
         part_channels::<P, S>(self.src, at, count, to);
     }
@@ -442,11 +403,6 @@ impl<'a, P: Pixel, S: Stored<P>> Source<P> for Faded<'a, S, P::Chan> {
 
     #[inline(always)]
     fn pixel(&self, at: usize) -> P {
-        matted_pixel(&self.src[at].load(), self.alpha)
-    }
-
-    #[inline(always)]
-    fn are_clear(&self, _at: usize, _count: usize) -> bool {
-        false
+        self.src[at].load()
     }
 }
