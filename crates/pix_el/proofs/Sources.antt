@@ -209,9 +209,9 @@ next_placed number f at size i xs ws new ys is so_far wide long made =
     let after : at + size ≡ size * (i + 1) = is_after in
     mapped_run_step number (λ x y. f y x) at size (at + size) xs ws new ys (so_far ∙ ap (λ (n : ℕ). over f (take n ys) (map number xs)) (sym is)) refl wide long made
     ∙ ap (λ (n : ℕ). over f (take n ys) (map number xs)) after
-    where
-      is_after : at + size ≡ size * (i + 1)
-      is_after = let e : size * (i + 1) ≡ size * i + size = omega arith in omega (arith, is, e)
+  where
+    is_after : at + size ≡ size * (i + 1)
+    is_after = let e : size * (i + 1) ≡ size * i + size = omega arith in omega (arith, is, e)
 
 pub take_repeated : {A : Type 0} (k n : ℕ) (y : A) → k ≤ n → take k (replicate n y) ≡ replicate k y
 take_repeated zero n y h = refl

@@ -8,8 +8,8 @@
 //! in memory. Pixels through mattes use the same blocks (`masked.rt`).
 //!
 //! What a row is composited with is a `Source`, and each block takes any (`source.rt`). The blocks
-//! are chosen by the model, for a color through mattes also by the operator (`runs.rt`). No contract
-//! of `rows.rt` depends on it.
+//! are chosen by the model, for a color through mattes also by the operator (`runs.rt`). No
+//! contract of `rows.rt` depends on it.
 ghost use Rattle.std.specs.Prelude.{◌≡◌, ◌≤◌, length, map, true};
 ghost use Rattle.pix_chan.specs.Runs.{over, triples};
 ghost use Rattle.pix_el.specs.Planes.{run_hue, run_first, matted_first};

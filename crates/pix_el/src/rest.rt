@@ -11,8 +11,8 @@ use crate::stored::Stored;
 use pix_chan::chan::{Linear, Premultiplied};
 use pix_ops::ops::Blend;
 
-/// Composites a pixel in memory with what a source gives at `at`. Condition: the format has an alpha
-/// channel, and the source gives as much.
+/// Composites a pixel in memory with what a source gives at `at`. Condition: the format has an
+/// alpha channel, and the source gives as much.
 #[inline(always)]
 fn composite_given<
     O: Blend,

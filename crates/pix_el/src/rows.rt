@@ -364,7 +364,12 @@ impl<P: Pixel<Alpha = Premultiplied, Gamma = Linear>, D: Stored<P>, S: Stored<P>
             let (row, source) = (&mut row[..count], Faded { src, alpha });
             let start = largest_blocks::<O, P, D, Faded<'_, S, P::Chan>>(row, &source);
             if start < count {
-                finish::<O, P, D, Faded<'_, S, P::Chan>>(&mut row[start..], &source, start, self.op);
+                finish::<O, P, D, Faded<'_, S, P::Chan>>(
+                    &mut row[start..],
+                    &source,
+                    start,
+                    self.op,
+                );
             }
         }
     }

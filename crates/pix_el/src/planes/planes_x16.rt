@@ -49,8 +49,8 @@ fn put_planes<P: Pixel, D: Stored<P>>(
 }
 
 /// Returns the planes of sixteen pixels, each pixel multiplied by the matte value of the same
-/// index. Each source of each operator has code of its own, since LLVM inlines a large function only
-/// where it is called once.
+/// index. Each source of each operator has code of its own, since LLVM inlines a large function
+/// only where it is called once.
 ///
 /// Condition: the alpha is the last channel, and only the first may be a hue.
 #[inline(always)]

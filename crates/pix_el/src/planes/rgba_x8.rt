@@ -38,7 +38,7 @@ fn put_eight_pixels<P: Pixel, D: Stored<P>>(p: &mut [D], c: [P::Chan; 32])
 }
 
 /// Returns the channels of eight pixels, each pixel multiplied by the matte value of the same
-/// index, which stands at the four places of its pixel.
+/// index, which is at the four places of its pixel.
 ///
 /// Condition: the alpha is the last channel, and none is a hue.
 #[inline(always)]

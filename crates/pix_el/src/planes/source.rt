@@ -56,8 +56,8 @@ pub(crate) trait Source<P: Pixel>: Copy {
         requires few { count ≤ 16 }
         ensures { take count (map P.Chan.number result) ≡ take count (drop at (values self.now)) };
 
-    /// Returns the values of eight of its pixels from `at` on, each four times. Condition: there are
-    /// so many.
+    /// Returns the values of eight of its pixels from `at` on, each four times. Condition: there
+    /// are so many.
     fn fourfold(&self, at: usize) -> [P::Chan; 32]
         requires has { at + 8 ≤ length (gives self.now) }
         ensures { map P.Chan.number result ≡ in_turn
@@ -141,8 +141,8 @@ pub(super) fn joined<C: Channel>(a: [C; 16], b: [C; 16]) -> [C; 32]
     both
 }
 
-/// Returns the first eight values, each four times. Equal planes are put together, which uses lanes.
-/// For an array that names each value four times, LLVM writes each element by itself.
+/// Returns the first eight values, each four times. Equal planes are put together, which uses
+/// lanes. For an array that names each value four times, LLVM writes each element by itself.
 #[inline(always)]
 fn spread<C: Channel>(values: [C; 16]) -> [C; 32]
     ensures { map C.number result ≡ take 32 (in_turn (map C.number values) (map C.number values)
